@@ -1,0 +1,109 @@
+-- Laws of seek.
+use mathlib.Core.Path.{_≡_, refl, sym, ap, _∙_}
+use mathlib.Core.Logic.{⊎-elim}
+use mathlib.Core.Bool.{Bool, true, false}
+use mathlib.Core.Option.{Option, none, some}
+use Prim.Native.Nat.{ℕ, zero, suc, _+_, _-_, _≤_, _<_}
+use native.Mathlib.Nat.{add-zero, add-suc, suc-add}
+use native.Mathlib.Omega.{arith}
+use Rattle.rank_sel.specs.Rank.{rank}
+use Rattle.rank_sel.specs.Seek.{onHere, seek, Sought, Exact}
+use Rattle.rank_sel.proofs.Numbers.{lt-or-le}
+use Rattle.rank_sel.proofs.Rank.{rank-zero, rank-one, rank-same, rank-lt}
+
+pub sought-unique : (f : ℕ → Bool) (p q : ℕ) → f p ≡ true → f q ≡ true → rank f p ≡ rank f q → p ≡ q
+sought-unique f p q ep eq e = ⊎-elim (λ l. omega (arith, rank-lt f p q ep l)) (λ g. ⊎-elim (λ l. omega (arith, rank-lt f q p eq l)) (λ l. omega arith) (lt-or-le q p)) (lt-or-le p q)
+
+pub seek-found : (f : ℕ → Bool) (n x k p : ℕ) → seek f n x k ≡ some p → Sought f n x k p
+unfolding seek
+seek-found f zero x k p e = let z : _≡_ {A = ℕ} 0 1 = cc in absurd (omega arith)
+seek-found f (suc n) x k p e = go (λ r. seek-found f n (suc x) r p) (f x) refl k e
+  where
+    go : ((r : ℕ) → seek f n (suc x) r ≡ some p → Sought f n (suc x) r p) → (b : Bool) → f x ≡ b → (r : ℕ) → onHere b r x (λ r. seek f n (suc x) r) ≡ some p → Sought f (suc n) x r p
+    go ih true h zero q =
+        let s : x ≡ p = cc in
+        record { low = omega arith; high = omega arith; here = ap f (sym s) ∙ h; before = ap (rank f) (sym s) ∙ omega arith }
+    go ih true h (suc r) q =
+        let s = ih r q in
+        record { low = omega arith; high = omega arith; here = s .here; before = omega (arith, rank-one f x h) }
+    go ih false h r q =
+        let s = ih r q in
+        record { low = omega arith; high = omega arith; here = s .here; before = omega (arith, rank-same f x h) }
+
+pub seek-none : (f : ℕ → Bool) (n x k : ℕ) → seek f n x k ≡ none → rank f (x + n) ≤ rank f x + k
+unfolding seek
+seek-none f zero x k e = rw add-zero (omega arith)
+seek-none f (suc n) x k e = go (λ r. seek-none f n (suc x) r) (f x) refl k e
+  where
+    go : ((r : ℕ) → seek f n (suc x) r ≡ none → rank f (suc x + n) ≤ rank f (suc x) + r) → (b : Bool) → f x ≡ b → (r : ℕ) → onHere b r x (λ r. seek f n (suc x) r) ≡ none → rank f (x + suc n) ≤ rank f x + r
+    go ih true h zero q = let z : _≡_ {A = ℕ} 0 1 = cc in absurd (omega arith)
+    go ih true h (suc r) q =
+        let s = ih r q in
+        rw (add-suc, ← suc-add) (omega (arith, rank-one f x h))
+    go ih false h r q =
+        let s = ih r q in
+        rw (add-suc, ← suc-add) (omega (arith, rank-same f x h))
+
+-- the other way round: each answer is the one that its facts say
+pub seek-at : (f : ℕ → Bool) (n x k p : ℕ) → Sought f n x k p → seek f n x k ≡ some p
+seek-at f n x k p s = go (seek f n x k) refl
+  where
+    go : (r : Option ℕ) → seek f n x k ≡ r → seek f n x k ≡ some p
+    go (some q) e =
+        let t = seek-found f n x k q e in
+        e ∙ ap some (sought-unique f q p (t .here) (s .here) (t .before ∙ sym (s .before)))
+    go none e = absurd (omega (arith, seek-none f n x k e, rank-lt f p (x + n) (s .here) (s .high), s .before))
+
+pub seek-empty : (f : ℕ → Bool) (n x k : ℕ) → rank f (x + n) ≤ rank f x + k → seek f n x k ≡ none
+seek-empty f n x k h = go (seek f n x k) refl
+  where
+    go : (r : Option ℕ) → seek f n x k ≡ r → seek f n x k ≡ none
+    go (some q) e =
+        let t = seek-found f n x k q e in
+        absurd (omega (arith, rank-lt f q (x + n) (t .here) (t .high), t .before))
+    go none e = e
+
+-- where enough are left, there is an answer
+pub seek-some : (f : ℕ → Bool) (n x k : ℕ) → rank f x + k < rank f (x + n) → (p : ℕ) × (seek f n x k ≡ some p) × Sought f n x k p
+seek-some f n x k h = go (seek f n x k) refl
+  where
+    go : (r : Option ℕ) → seek f n x k ≡ r → (p : ℕ) × (seek f n x k ≡ some p) × Sought f n x k p
+    go (some q) e = (q, e, seek-found f n x k q e)
+    go none e = absurd (omega (arith, seek-none f n x k e))
+
+-- the same place, sought over a longer part
+pub sought-wider : (f : ℕ → Bool) (n x k m y r p : ℕ) → Sought f n x k p → y ≤ x → x + n ≤ y + m → rank f x + k ≡ rank f y + r → Sought f m y r p
+sought-wider f n x k m y r p s a b e = record { low = omega arith; high = omega arith; here = s .here; before = omega arith }
+
+-- a seek may start at any mark on the way: what it passed is taken off
+pub seek-skip : (f : ℕ → Bool) (n x k m r : ℕ) → x ≤ m → m ≤ x + n → rank f m + r ≡ rank f x + k → seek f n x k ≡ seek f (x + n - m) m r
+seek-skip f n x k m r l h e = go (seek f (x + n - m) m r) refl
+  where
+    go : (s : Option ℕ) → seek f (x + n - m) m r ≡ s → seek f n x k ≡ seek f (x + n - m) m r
+    go (some p) q =
+        let s = seek-found f (x + n - m) m r p q in
+        seek-at f n x k p (sought-wider f (x + n - m) m r n x k p s (omega arith) (omega arith) (omega arith)) ∙ sym q
+    go none q =
+        let z : rank f (m + (x + n - m)) ≡ rank f (x + n) = ap (rank f) (omega arith) in
+        seek-empty f n x k (omega (arith, seek-none f (x + n - m) m r q)) ∙ sym q
+
+-- after the one of rank k, the next is of rank k + 1
+pub seek-next : (f : ℕ → Bool) (n x k p : ℕ) → seek f n x k ≡ some p → seek f n x (k + 1) ≡ seek f (x + n - suc p) (suc p) 0
+seek-next f n x k p e =
+    let s = seek-found f n x k p e in
+    seek-skip f n x (k + 1) (suc p) 0 (omega arith) (omega arith) (omega (arith, rank-one f p (s .here)))
+
+-- there is an answer exactly below the count
+pub seek-total : (f : ℕ → Bool) (n r : ℕ) → r < rank f n → (p : ℕ) × (seek f n 0 r ≡ some p) × (p < n) × (f p ≡ true) × (rank f p ≡ r)
+seek-total f n r h =
+    let z : rank f (0 + n) ≡ rank f n = ap (rank f) (omega arith) in
+    let s = seek-some f n 0 r (omega (arith, rank-zero f)) in
+    (s .0, s .1, omega (arith, s .2), s .2 .here, omega (arith, s .2, rank-zero f))
+
+pub seek-exact : (f : ℕ → Bool) (n x k : ℕ) → Exact f n x k
+seek-exact f n x k = record {
+  found = λ p. (seek-found f n x k p, seek-at f n x k p);
+  unique = λ p q s t. sought-unique f p q (s .here) (t .here) (s .before ∙ sym (t .before));
+  exists = ((λ h. (seek-some f n x k h .0, seek-some f n x k h .2)), (λ s. omega (arith, s .1, rank-lt f (s .0) (x + n) (s .1 .here) (s .1 .high))));
+  missing = (seek-none f n x k, seek-empty f n x k);
+}

@@ -1,0 +1,4 @@
+pub mod Numbers
+pub mod Rank
+pub mod Seek
+pub mod Outcome

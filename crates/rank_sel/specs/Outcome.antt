@@ -1,0 +1,34 @@
+-- What a call answers: values, or the number of one refusal. Each answer enum has a definition that reads it as an Outcome.
+use mathlib.Core.Bool.{Bool, true, false}
+use mathlib.Core.Option.{Option, none, some}
+use Prim.Native.Nat.{ℕ}
+use Rattle.rank_sel.specs.declared.Refusal.{Refusal}
+use Rattle.rank_sel.specs.declared.Refusal.the-variants.{LenTooLarge, TooFewWords, OnesPerInventoryTooLarge, WordsPerSubinventoryTooLarge, OverheadNotPositive, InventoryTooShort, SpillTooShort, RankTooLarge, SummaryUnlawful, CellsUnlawful, RanksFall}
+
+pub data Outcome (A : Type 0) : Type 0 where
+  answer : A → Outcome A
+  refused : ℕ → Outcome A
+
+-- document 01's table, "When a call is turned down"
+abbrev pub numberOf : Refusal → ℕ
+numberOf LenTooLarge = 1
+numberOf TooFewWords = 2
+numberOf OnesPerInventoryTooLarge = 3
+numberOf WordsPerSubinventoryTooLarge = 4
+numberOf OverheadNotPositive = 5
+numberOf InventoryTooShort = 6
+numberOf SpillTooShort = 7
+numberOf RankTooLarge = 8
+numberOf SummaryUnlawful = 9
+numberOf CellsUnlawful = 10
+numberOf RanksFall = 11
+
+-- number n where its condition holds, else what the tests after it say
+abbrev pub refuseIf : {A : Type 0} → Bool → ℕ → Outcome A → Outcome A
+refuseIf true n rest = refused n
+refuseIf false n rest = rest
+
+-- number n where there is nothing, else what there is
+abbrev pub orRefuse : {A : Type 0} → ℕ → Option A → Outcome A
+orRefuse n none = refused n
+orRefuse n (some a) = answer a
