@@ -1,0 +1,4 @@
+pub mod Bit
+pub mod Select
+pub mod Tail
+pub mod Holds
