@@ -1,0 +1,68 @@
+-- A record and what is selected in it. Document 01, "What it covers".
+use mathlib.Core.Bool.{Bool, not, _&&_}
+use mathlib.Core.List.{List}
+use mathlib.Core.Option.{Option, none, some}
+use mathlib.Core.Path.{_≡_}
+use Prim.Native.Nat.{ℕ, _-_, _/_, _%_, _^_, _≤_, _<_}
+use lib.Dec.{ltb}
+use lib.ListN.{length, getD}
+use Rattle.rank_sel.specs.Numbers.{ceilDiv}
+use Rattle.rank_sel.specs.Outcome.{Outcome, answer, refused, numberOf, refuseIf}
+use Rattle.rank_sel.specs.Rank.{rank}
+use Rattle.select_in_word.specs.Bit.{bit}
+use Rattle.bit_record.specs.declared.Polarity.{Polarity}
+use Rattle.bit_record.specs.declared.Polarity.the-variants.{Ones, Zeros}
+use Rattle.bit_record.specs.declared.Counted.{Counted}
+use Rattle.bit_record.specs.declared.Counted.the-variants as Counted·v
+use Rattle.bit_record.specs.declared.Place.{Place}
+use Rattle.bit_record.specs.declared.Place.the-variants as Place·v
+
+-- bit p is bit p mod 64, lowest first, of word p div 64
+unfoldable pub bitAt : List ℕ → ℕ → Bool
+bitAt ws p = bit (getD ws (p / 64) 0) (p % 64)
+
+abbrev pub chosen : Polarity → Bool → Bool
+chosen Ones b = b
+chosen Zeros b = not b
+
+-- the polarity says which bits below len are selected
+unfoldable pub selected : Polarity → List ℕ → ℕ → ℕ → Bool
+selected pol ws len p = ltb p len && chosen pol (bitAt ws p)
+
+-- N
+unfoldable pub numSelected : Polarity → List ℕ → ℕ → ℕ
+numSelected pol ws len = rank (selected pol ws len) len
+
+-- the conditions of refusals 1 and 2
+abbrev pub lenTooLarge : ℕ → Bool
+lenTooLarge len = ltb (2 ^ 62 - 1) len
+
+abbrev pub tooFewWords : List ℕ → ℕ → Bool
+tooFewWords ws len = ltb (length ws) (ceilDiv len 64)
+
+unfoldable pub countOf : List ℕ → ℕ → Polarity → Outcome ℕ
+countOf ws len pol = refuseIf (lenTooLarge len) 1 (refuseIf (tooFewWords ws len) 2 (answer (numSelected pol ws len)))
+
+abbrev pub counted : Counted → Outcome ℕ
+counted (Counted·v.Count n) = answer n
+counted (Counted·v.Refused r) = refused (numberOf r)
+
+abbrev pub found : Place → Option ℕ
+found (Place·v.At p) = some p
+found Place·v.Nowhere = none
+
+-- a record that is turned down by neither 1 nor 2
+pub record Admitted (ws : List ℕ) (len : ℕ) : Type 0 where
+  pub short : len < 2 ^ 62
+  pub held : ceilDiv len 64 ≤ length ws
+
+-- two lists of words that hold the same record: they may differ at or past len
+pub record SameRecord (len : ℕ) (ws vs : List ℕ) : Type 0 where
+  pub held : ceilDiv len 64 ≤ length ws
+  pub held′ : ceilDiv len 64 ≤ length vs
+  pub bits : (p : ℕ) → p < len → bitAt ws p ≡ bitAt vs p
+
+-- a word, or its complement
+abbrev pub complemented : Polarity → ℕ → ℕ
+complemented Ones w = w
+complemented Zeros w = (2 ^ 64 - 1) - w

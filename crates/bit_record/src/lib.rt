@@ -1,0 +1,92 @@
+// One record: lent words of which the first `len` bits count, and a polarity that says which of these are selected.
+ghost use mathlib.Core.Path.{_≡_};
+ghost use Prim.Native.Nat.{_+_, _-_, _*_, _<_};
+ghost use lib.ListN.{length};
+ghost use Rattle.rank_sel.specs.Seek.{seek};
+ghost use Rattle.select_in_word.specs.Holds.{Holds};
+ghost use Rattle.bit_record.specs.Record.{Admitted, complemented, counted, countOf, found, selected};
+use rank_sel::Refusal;
+use select_in_word::InWord;
+use select_in_word::count_ones;
+use select_in_word::mask_tail_word;
+use select_in_word::select_in_word_by_halves;
+use select_in_word::tail_mask;
+
+pub enum Polarity {
+    Ones,
+    Zeros,
+}
+
+pub enum Counted {
+    Count(u64),
+    Refused(Refusal),
+}
+
+pub enum Place {
+    At(u64),
+    Nowhere,
+}
+
+// The word whose ones are the bits that the polarity selects.
+fn complement_zeros(word: u64, polarity: Polarity) -> u64
+    ensures { λ r. ⌜ r ≡ complemented polarity word ⌝ }
+{
+    match polarity {
+        Polarity::Ones => word,
+        Polarity::Zeros => !word,
+    }
+}
+
+// The 64 positions from 64 * i on, a one where the position is selected: none at or past `len`.
+fn selected_word(words: &[u64], i: usize, len: u64, polarity: Polarity) -> u64
+    requires { ⌜ (i < length (now words)) × (64 * i < len) ⌝ }
+    ensures { λ r. ⌜ Holds 64 (selected polarity (now (words .entry)) len) (64 * i) r ⌝ }
+{
+    let word = complement_zeros(words[i], polarity);
+    let is_last = len - 64 * (i as u64) <= 64;
+    mask_tail_word(word, is_last, tail_mask(len % 64))
+}
+
+// How many bits of the record are selected.
+pub fn count(words: &[u64], len: u64, polarity: Polarity) -> Counted
+    ensures { λ r. ⌜ counted r ≡ countOf (now (words .entry)) len polarity ⌝ }
+{
+    if len > 0x3fff_ffff_ffff_ffff {
+        return Counted::Refused(Refusal::LenTooLarge);
+    }
+    let n = ((len + 63) / 64) as usize;
+    if words.len() < n {
+        return Counted::Refused(Refusal::TooFewWords);
+    }
+    let mut total: u64 = 0;
+    let mut i: usize = 0;
+    while i < n {
+        total += count_ones(selected_word(words, i, len, polarity));
+        i += 1;
+    }
+    Counted::Count(total)
+}
+
+// The selected position at or after `from` with exactly `k` selected between, `from` included. Every reading of
+// the record's bits beyond the count goes through here: one count of ones for each word, in-word select in the last.
+pub fn seek_from(words: &[u64], len: u64, polarity: Polarity, from: u64, k: u64) -> Place
+    requires { ⌜ Admitted (now words) len ⌝ }
+    ensures { λ r. ⌜ found r ≡ seek (selected polarity (now (words .entry)) len) (len - from) from k ⌝ }
+{
+    let mut remaining = k;
+    let mut at = from;
+    while at < len {
+        let shift = at % 64;
+        let word = selected_word(words, (at / 64) as usize, len, polarity) >> shift;
+        let ones = count_ones(word);
+        if remaining < ones {
+            return match select_in_word_by_halves(word, remaining) {
+                InWord::At(p) => Place::At(at + p),
+                InWord::Refused(_) => Place::Nowhere,
+            };
+        }
+        remaining -= ones;
+        at += 64 - shift;
+    }
+    Place::Nowhere
+}
