@@ -7,13 +7,11 @@ use Prim.Native.Nat.{ℕ, _-_, _/_, _%_, _^_, _≤_, _<_}
 use lib.Dec.{ltb}
 use lib.ListN.{length, getD}
 use Rattle.rank_sel.specs.Numbers.{ceilDiv}
-use Rattle.rank_sel.specs.Outcome.{Outcome, answer, refused, numberOf, refuseIf}
+use Rattle.rank_sel.specs.Outcome.{Outcome, answer, refuseIf}
 use Rattle.rank_sel.specs.Rank.{rank}
 use Rattle.select_in_word.specs.Bit.{bit}
 use Rattle.bit_record.specs.declared.Polarity.{Polarity}
 use Rattle.bit_record.specs.declared.Polarity.the-variants.{Ones, Zeros}
-use Rattle.bit_record.specs.declared.Counted.{Counted}
-use Rattle.bit_record.specs.declared.Counted.the-variants as Counted·v
 use Rattle.bit_record.specs.declared.Place.{Place}
 use Rattle.bit_record.specs.declared.Place.the-variants as Place·v
 
@@ -42,10 +40,6 @@ tooFewWords ws len = ltb (length ws) (ceilDiv len 64)
 
 unfoldable pub countOf : List ℕ → ℕ → Polarity → Outcome ℕ
 countOf ws len pol = refuseIf (lenTooLarge len) 1 (refuseIf (tooFewWords ws len) 2 (answer (numSelected pol ws len)))
-
-abbrev pub counted : Counted → Outcome ℕ
-counted (Counted·v.Count n) = answer n
-counted (Counted·v.Refused r) = refused (numberOf r)
 
 abbrev pub found : Place → Option ℕ
 found (Place·v.At p) = some p

@@ -2,9 +2,11 @@
 ghost use mathlib.Core.Path.{_≡_};
 ghost use Prim.Native.Nat.{_+_, _-_, _*_, _<_};
 ghost use lib.ListN.{length};
+ghost use Rattle.rank_sel.specs.Outcome.{answered};
 ghost use Rattle.rank_sel.specs.Seek.{seek};
 ghost use Rattle.select_in_word.specs.Holds.{Holds};
-ghost use Rattle.bit_record.specs.Record.{Admitted, complemented, counted, countOf, found, selected};
+ghost use Rattle.bit_record.specs.Record.{Admitted, complemented, countOf, found, selected};
+use rank_sel::Answer;
 use rank_sel::Refusal;
 use select_in_word::InWord;
 use select_in_word::count_ones;
@@ -15,11 +17,6 @@ use select_in_word::tail_mask;
 pub enum Polarity {
     Ones,
     Zeros,
-}
-
-pub enum Counted {
-    Count(u64),
-    Refused(Refusal),
 }
 
 pub enum Place {
@@ -48,15 +45,15 @@ fn selected_word(words: &[u64], i: usize, len: u64, polarity: Polarity) -> u64
 }
 
 // How many bits of the record are selected.
-pub fn count(words: &[u64], len: u64, polarity: Polarity) -> Counted
-    ensures { λ r. ⌜ counted r ≡ countOf (now (words .entry)) len polarity ⌝ }
+pub fn count(words: &[u64], len: u64, polarity: Polarity) -> Answer
+    ensures { λ r. ⌜ answered r ≡ countOf (now (words .entry)) len polarity ⌝ }
 {
     if len > 0x3fff_ffff_ffff_ffff {
-        return Counted::Refused(Refusal::LenTooLarge);
+        return Answer::Refused(Refusal::LenTooLarge);
     }
     let n = ((len + 63) / 64) as usize;
     if words.len() < n {
-        return Counted::Refused(Refusal::TooFewWords);
+        return Answer::Refused(Refusal::TooFewWords);
     }
     let mut total: u64 = 0;
     let mut i: usize = 0;
@@ -64,7 +61,7 @@ pub fn count(words: &[u64], len: u64, polarity: Polarity) -> Counted
         total += count_ones(selected_word(words, i, len, polarity));
         i += 1;
     }
-    Counted::Count(total)
+    Answer::Value(total)
 }
 
 // The selected position at or after `from` with exactly `k` selected between, `from` included. Every reading of

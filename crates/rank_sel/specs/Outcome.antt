@@ -2,6 +2,8 @@
 use mathlib.Core.Bool.{Bool, true, false}
 use mathlib.Core.Option.{Option, none, some}
 use Prim.Native.Nat.{ℕ}
+use Rattle.rank_sel.specs.declared.Answer.{Answer}
+use Rattle.rank_sel.specs.declared.Answer.the-variants.{Value, Refused}
 use Rattle.rank_sel.specs.declared.Refusal.{Refusal}
 use Rattle.rank_sel.specs.declared.Refusal.the-variants.{LenTooLarge, TooFewWords, OnesPerInventoryTooLarge, WordsPerSubinventoryTooLarge, OverheadNotPositive, InventoryTooShort, SpillTooShort, RankTooLarge, SummaryUnlawful, CellsUnlawful, RanksFall}
 
@@ -23,6 +25,10 @@ numberOf SummaryUnlawful = 9
 numberOf CellsUnlawful = 10
 numberOf RanksFall = 11
 
+abbrev pub answered : Answer → Outcome ℕ
+answered (Value n) = answer n
+answered (Refused r) = refused (numberOf r)
+
 -- number n where its condition holds, else what the tests after it say
 abbrev pub refuseIf : {A : Type 0} → Bool → ℕ → Outcome A → Outcome A
 refuseIf true n rest = refused n
@@ -32,3 +38,8 @@ refuseIf false n rest = rest
 abbrev pub orRefuse : {A : Type 0} → ℕ → Option A → Outcome A
 orRefuse n none = refused n
 orRefuse n (some a) = answer a
+
+-- a refusal stays; an answer goes on
+abbrev pub andThen : {A B : Type 0} → Outcome A → (A → Outcome B) → Outcome B
+andThen (answer a) go = go a
+andThen (refused n) go = refused n

@@ -1,7 +1,7 @@
 -- Seek, over any set of positions: Vigna's select, counted from any place on.
 use mathlib.Core.Bool.{Bool, true, false}
 use mathlib.Core.Logic.{_↔_}
-use mathlib.Core.Option.{Option, none, some}
+use mathlib.Core.Option.{Option, none, some, Option·getD}
 use mathlib.Core.Path.{_≡_}
 use Prim.Native.Nat.{ℕ, zero, suc, _+_, _≤_, _<_}
 use Rattle.rank_sel.specs.Rank.{rank}
@@ -17,7 +17,11 @@ unfoldable pub seek : (ℕ → Bool) → ℕ → ℕ → ℕ → Option ℕ
 seek f zero x k = none
 seek f (suc n) x k = onHere (f x) k x (λ r. seek f n (suc x) r)
 
--- the facts that describe this position, p
+-- Vigna's select: the selected position below n with exactly r others before it; 0 where there is none
+unfoldable pub select : (ℕ → Bool) → ℕ → ℕ → ℕ
+select f n r = Option·getD (seek f n 0 r) 0
+
+-- the facts that describe the sought position, p
 pub record Sought (f : ℕ → Bool) (n x k p : ℕ) : Type 0 where
   pub low : x ≤ p
   pub high : p < x + n

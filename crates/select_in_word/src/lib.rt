@@ -10,6 +10,7 @@ mod byte_table;
 
 use byte_table::SELECT_IN_BYTE;
 use rank_sel::Refusal;
+use rank_sel::pow2;
 
 pub enum InWord {
     At(u64),
@@ -46,14 +47,6 @@ pub fn select_in_word(word: u64, rank: u64) -> InWord
         at += 8;
     }
     InWord::Refused(Refusal::RankTooLarge)
-}
-
-// 2^k
-pub fn pow2(k: u32) -> u64
-    requires { ⌜ k < 64 ⌝ }
-    ensures { λ r. ⌜ r ≡ 2 ^ k ⌝ }
-{
-    1u64 << k
 }
 
 // The low n bits.

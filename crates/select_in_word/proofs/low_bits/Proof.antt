@@ -1,6 +1,7 @@
 use lib.Pow.{pow-pos}
 use borrow.Author.Needs.{needs}
-use Rattle.select_in_word.proofs.Shift.{shl-one, low-mask}
+use Rattle.rank_sel.proofs.Shift.{shl-one}
+use Rattle.select_in_word.proofs.Shift.{low-mask}
 use Rattle.select_in_word.proofs.low_bits.Statement.{statement}
 use Rattle.select_in_word.proofs.low_bits.Tie as tie
 

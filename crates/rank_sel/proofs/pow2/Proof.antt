@@ -1,7 +1,7 @@
 use borrow.Author.Needs.{needs}
-use Rattle.select_in_word.proofs.Shift.{shl-one}
-use Rattle.select_in_word.proofs.pow2.Statement.{statement}
-use Rattle.select_in_word.proofs.pow2.Tie as tie
+use Rattle.rank_sel.proofs.Shift.{shl-one}
+use Rattle.rank_sel.proofs.pow2.Statement.{statement}
+use Rattle.rank_sel.proofs.pow2.Tie as tie
 
 shl-result : tie.Need-shl-result
 shl-result c = search needs
