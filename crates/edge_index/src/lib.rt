@@ -1,0 +1,8 @@
+// The public face: every entry. What is promised of them is in specs/, proved in proofs/.
+pub use bit_record::Polarity;
+pub use bit_record::count;
+pub use rank_sel::Answer;
+pub use rank_sel::Refusal;
+pub use rank_sel::refusal_number;
+pub use select_in_word::InWord;
+pub use select_in_word::select_in_word;

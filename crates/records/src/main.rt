@@ -1,0 +1,91 @@
+// Runs document 01's "Records to try" and its examples of refusals through the library; what it writes is held to stdout.
+use edge_index::Answer;
+use edge_index::InWord;
+use edge_index::Polarity;
+use edge_index::Refusal;
+use edge_index::count;
+use edge_index::refusal_number;
+use edge_index::select_in_word;
+use libc::STDOUT_FILENO;
+
+fn say(text: &[u8]) {
+    io::write_all(STDOUT_FILENO, text);
+}
+
+fn end_with(number: u64) {
+    io::print_decimal(STDOUT_FILENO, number);
+    say(b"\n");
+}
+
+fn end_refused(refusal: Refusal) {
+    say(b"refused ");
+    end_with(refusal_number(refusal));
+}
+
+fn show(answer: Answer) {
+    match answer {
+        Answer::Value(number) => end_with(number),
+        Answer::Refused(refusal) => end_refused(refusal),
+    }
+}
+
+fn show_count(name: &[u8], words: &[u64], len: u64, polarity: Polarity) {
+    say(b"count ");
+    say(name);
+    say(b": ");
+    show(count(words, len, polarity));
+}
+
+fn show_in_word(word: u64, rank: u64) {
+    say(b"in word 0x");
+    io::print_hex(STDOUT_FILENO, word, 1);
+    say(b", rank ");
+    io::print_decimal(STDOUT_FILENO, rank);
+    say(b": ");
+    match select_in_word(word, rank) {
+        InWord::At(position) => end_with(position),
+        InWord::Refused(refusal) => end_refused(refusal),
+    }
+}
+
+fn counts() {
+    let a = [0x252u64];
+    show_count(b"A, ones", &a, 10, Polarity::Ones);
+    show_count(b"A, zeros", &a, 10, Polarity::Zeros);
+    show_count(b"A, len 64, zeros", &a, 64, Polarity::Zeros);
+    show_count(b"A, len 2^62", &a, 0x4000_0000_0000_0000, Polarity::Ones);
+    show_count(
+        b"A, len 2^62 - 1",
+        &a,
+        0x3fff_ffff_ffff_ffff,
+        Polarity::Ones,
+    );
+    show_count(b"A, 65 bits in one word", &a, 65, Polarity::Ones);
+    let none = [0u64; 0];
+    show_count(b"no words, len 0", &none, 0, Polarity::Ones);
+    show_count(b"no words, len 0, zeros", &none, 0, Polarity::Zeros);
+    show_count(b"no words, len 1", &none, 1, Polarity::Ones);
+    let dirty = [u64::MAX, u64::MAX, u64::MAX];
+    show_count(b"65 of 192 ones", &dirty, 65, Polarity::Ones);
+    show_count(b"65 of 192 ones, zeros", &dirty, 65, Polarity::Zeros);
+}
+
+fn in_words() {
+    show_in_word(0b1, 0);
+    show_in_word(0b11, 1);
+    show_in_word(0b101, 1);
+    show_in_word(0x8000_0000_0000_0000, 0);
+    show_in_word(0x8000_0000_8000_0000, 0);
+    show_in_word(0x8000_0000_8000_0000, 1);
+    show_in_word(0x252, 1);
+    show_in_word(0x252, 4);
+    show_in_word(0, 0);
+    show_in_word(u64::MAX, 63);
+    show_in_word(u64::MAX, 64);
+    show_in_word(u64::MAX, u64::MAX);
+}
+
+fn main() {
+    counts();
+    in_words();
+}
