@@ -1,3 +1,4 @@
 pub mod Record
 pub mod Seek
 pub mod Same
+pub mod Counted

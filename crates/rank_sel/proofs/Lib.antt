@@ -3,3 +3,4 @@ pub mod Shift
 pub mod Rank
 pub mod Seek
 pub mod Select
+pub mod Outcome

@@ -2,8 +2,8 @@
 use mathlib.Core.Path.{_≡_, refl, sym, ap, _∙_}
 use mathlib.Core.Logic.{_⊎_, inl, inr, ⊎-elim}
 use mathlib.Core.Bool.{Bool, true, false}
-use Prim.Native.Nat.{ℕ, zero, suc, _+_, _-_, _*_, _^_, _≤_, _<_}
-use native.Mathlib.Nat.{pow-suc, le-antisymm, lt-of-not-le}
+use Prim.Native.Nat.{ℕ, zero, suc, _+_, _-_, _^_, _≤_, _<_}
+use native.Mathlib.Nat.{pow-suc, le-antisymm}
 use native.Mathlib.Numerals.{add-one}
 use native.Mathlib.Omega.{arith}
 use lib.Dec.{leb, ltb}
@@ -95,3 +95,7 @@ clog2-ilog2 n h =
     clog2-unique n (ilog2 (n - 1) + 1) (omega (arith, s))
     (λ c a. ⊎-elim (λ l. omega arith) (λ l. absurd (omega (arith, s, pow-mono {i = c} {j = ilog2 (n - 1)} l)))
     (lt-or-le (ilog2 (n - 1)) c))
+
+-- below a successor: below, or there
+pub lt-suc-cases : (P : ℕ → Type 0) (i n : ℕ) → i < suc n → (i < n → P i) → P n → P i
+lt-suc-cases P i n h low top = ⊎-elim low (λ (g : n ≤ i). let e : i ≡ n = omega arith in rw e top) (lt-or-le i n)
