@@ -1,11 +1,18 @@
--- Records to try: what the definitions give, beside what document 01 and the source say.
+-- Records to try: what the definitions give, beside what document 01 and the source say. Its starred lines are marked *.
+use mathlib.Core.Bool.{true, false}
 use mathlib.Core.List.{List, [], _∷_}
 use mathlib.Core.Path.{_≡_}
-use Prim.Native.Nat.{ℕ, _^_}
+use Prim.Native.Nat.{ℕ, _+_, _-_, _^_}
+use lib.Ieee.{nan, inf, fin}
+use lib.IntN.{pos, negsuc}
 use Rattle.rank_sel.specs.Outcome.{answer, refused}
 use Rattle.select_in_word.specs.Select.{selectInWord}
 use Rattle.bit_record.specs.Record.{countOf}
+use Rattle.bit_record.specs.declared.Polarity.{Polarity}
 use Rattle.bit_record.specs.declared.Polarity.the-variants.{Ones, Zeros}
+use Rattle.spacing.specs.Spacing.{asF64, cappedLog2Words, overheadSpan, planOf, spanLog2}
+use Rattle.spacing.specs.declared.Choice.the-variants.{Default, Span, Power, Overhead}
+use Rattle.spacing.specs.declared.Parameters.{Parameters}
 
 -- a value as defined, and as stated
 pub data Line : Type 1 where
@@ -15,6 +22,17 @@ pub data Line : Type 1 where
 abbrev pub Agree : List Line → Type 0
 Agree [] = Unit {0}
 Agree (line x y ∷ ls) = (x ≡ y) × Agree ls
+
+-- polarity, len, N, L, M, S
+abbrev pub parameters : Polarity → ℕ → ℕ → ℕ → ℕ → ℕ → Parameters
+parameters pol len num l m s = record {
+  polarity = pol;
+  len = len;
+  num = num;
+  «log2_ones_per_inventory» = l;
+  «log2_words_per_subinventory» = m;
+  «log2_ones_per_sub16» = s;
+}
 
 -- record A: word 0x252, len 10
 abbrev pub A : List ℕ
@@ -36,4 +54,30 @@ table =
     ∷ line (selectInWord 0x8000_0000_8000_0000 0) (answer 31)
     ∷ line (selectInWord 0x8000_0000_8000_0000 1) (answer 63)
     ∷ line (selectInWord 0x252 4) (refused 8)
+    -- * A ones, default: L 10, M 0, S 8
+    ∷ line (planOf A 10 Ones Default) (answer (parameters Ones 10 4 10 0 8))
+    -- * N 3, len 10, span 5: L 1
+    ∷ line (spanLog2 3 5 10) 1
+    -- * overhead 100.0, maximum 3: span 2,048; 10.0: 5,760
+    ∷ line (overheadSpan (asF64 100) 3) 2048
+    ∷ line (overheadSpan (asF64 10) 3) 5760
+    -- for m = 2^53 the first term is 2^53 itself; an infinite quotient gives 2^64 - 1; 256 × m holds at 52 and 53
+    ∷ line (asF64 (1 + 2 ^ 53)) (fin false 1 (pos 53))
+    ∷ line (overheadSpan (fin false 1 (negsuc 1073)) 53) (2 ^ 64 - 1)
+    ∷ line (overheadSpan (asF64 100) 52) (2 ^ 60)
+    ∷ line (overheadSpan (asF64 100) 53) (2 ^ 61)
+    -- the least and the largest span
+    ∷ line (spanLog2 4 0 10) 0
+    ∷ line (spanLog2 10 (2 ^ 64 - 1) 10) 63
+    -- M: each of its three bounds in turn
+    ∷ line (cappedLog2Words 1024 10 3) 3
+    ∷ line (cappedLog2Words 1024 4 53) 2
+    ∷ line (cappedLog2Words 9 63 53) 2
+    -- the examples of refusals 3, 4 and 5, and their order
+    ∷ line (planOf A 10 Ones (Power 64 54)) (refused 3)
+    ∷ line (planOf A 10 Ones (Span 4096 54)) (refused 4)
+    ∷ line (planOf A 10 Ones (Overhead nan 54)) (refused 4)
+    ∷ line (planOf A 10 Ones (Overhead (fin false 0 (pos 0)) 3)) (refused 5)
+    ∷ line (planOf A 10 Ones (Overhead (fin true 0 (pos 0)) 3)) (refused 5)
+    ∷ line (planOf A 10 Ones (Overhead (inf false) 3)) (refused 5)
     ∷ []

@@ -6,3 +6,7 @@ pub use rank_sel::Refusal;
 pub use rank_sel::refusal_number;
 pub use select_in_word::InWord;
 pub use select_in_word::select_in_word;
+pub use spacing::Choice;
+pub use spacing::Parameters;
+pub use spacing::Planned;
+pub use spacing::plan;

@@ -1,0 +1,4 @@
+pub mod Floats
+pub mod Products
+pub mod Span
+pub mod Facts
