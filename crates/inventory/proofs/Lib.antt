@@ -1,0 +1,13 @@
+pub mod Lanes
+pub mod Marks
+pub mod Index
+pub mod Ranks
+pub mod Sums
+pub mod Lawful
+pub mod Reading
+pub mod Decoding
+pub mod Answers
+pub mod Parts
+pub mod Unpack
+pub mod Placed
+pub mod ReadBack

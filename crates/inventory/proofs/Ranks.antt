@@ -1,0 +1,37 @@
+-- Laws of the ranks of an entry.
+use Prim.Native.Nat.{ℕ, _+_, _*_, _/_, _%_, _^_, _≤_, _<_}
+use native.Mathlib.Nat.{le-div-iff-mul-le, suc-mul, div-mul-le-self, div-add-mod', mod-lt}
+use native.Mathlib.Omega.{arith}
+use lib.Pow.{pow-pos}
+use Rattle.rank_sel.specs.Numbers.{ceilDiv}
+use Rattle.spacing.specs.Spacing.{N, L}
+use Rattle.spacing.specs.declared.Parameters.{Parameters}
+use Rattle.inventory.specs.Index.{entriesOf, ranksOf}
+use Rattle.inventory.proofs.Marks.{ceil-lt}
+
+pub below-ceil : (k a b : ℕ) → 0 < b → k * b < a → k < ceilDiv a b
+below-ceil k a b h l = le-div-iff-mul-le h .1 (omega (arith, suc-mul k b))
+
+module _ (p : Parameters) where
+  pub entry-in : (e : ℕ) → e < entriesOf p → e * 2 ^ L p < N p
+  unfolding entriesOf
+  entry-in e h = ceil-lt e (N p) (2 ^ L p) (pow-pos (L p)) h
+
+  pub in-entry : (e : ℕ) → e * 2 ^ L p < N p → e < entriesOf p
+  unfolding entriesOf
+  in-entry e h = below-ceil e (N p) (2 ^ L p) (pow-pos (L p)) h
+
+  pub ranks-most : (e : ℕ) → ranksOf p e ≤ 2 ^ L p
+  unfolding ranksOf
+  ranks-most e = omega arith
+
+  pub rank-entry : (r : ℕ) → r < N p → r / 2 ^ L p < entriesOf p
+  rank-entry r h = in-entry (r / 2 ^ L p) (omega (arith, div-mul-le-self r (2 ^ L p)))
+
+  pub rank-sub : (r : ℕ) → r < N p → r % 2 ^ L p < ranksOf p (r / 2 ^ L p)
+  unfolding ranksOf
+  rank-sub r h = omega (arith, div-add-mod' r (2 ^ L p), mod-lt r (pow-pos (L p)))
+
+  pub rank-in : (e s : ℕ) → s < ranksOf p e → (e * 2 ^ L p + s < N p) × (s < 2 ^ L p)
+  unfolding ranksOf
+  rank-in e s h = omega arith

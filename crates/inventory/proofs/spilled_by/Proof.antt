@@ -1,0 +1,58 @@
+use native.Mathlib.Omega.{arith}
+use lib.Pow.{pow-pos}
+use borrow.Author.Needs.{needs}
+use Rattle.inventory.proofs.spilled_by.Statement.{statement}
+use Rattle.inventory.proofs.spilled_by.Tie as tie
+
+enum-told : tie.Need-enum-told
+enum-told c = search needs
+
+enum-told-2 : tie.Need-enum-told-2
+enum-told-2 c = search needs
+
+add-saturating-sub : tie.Need-add-saturating-sub
+add-saturating-sub c = search needs
+
+pow2-requires : tie.Need-pow2-requires
+pow2-requires c κs = search needs
+
+sub-saturating-sub : tie.Need-sub-saturating-sub
+sub-saturating-sub c = omega (arith, pow-pos (c .before .before .before .args .log2-words-per-subinventory))
+
+saturating-sub-requires : tie.Need-saturating-sub-requires
+saturating-sub-requires c κs = search needs
+
+enum-told-3 : tie.Need-enum-told-3
+enum-told-3 c = search needs
+
+pow2-requires-2 : tie.Need-pow2-requires-2
+pow2-requires-2 c κs = search needs
+
+saturating-sub-requires-2 : tie.Need-saturating-sub-requires-2
+saturating-sub-requires-2 c κs = search needs
+
+returns : tie.Need-returns
+returns c = search needs
+
+returns-2 : tie.Need-returns-2
+returns-2 c = rw (c .before .before .enum-told2 .given .1) (omega arith)
+
+returns-3 : tie.Need-returns-3
+returns-3 c = rw (c .before .before .enum-told3 .given .1) (omega arith)
+
+pub spilled-by-spec : {M : Type 1} → statement M
+spilled-by-spec =
+    tie.close
+    (tie.spec
+    enum-told
+    enum-told-2
+    add-saturating-sub
+    pow2-requires
+    sub-saturating-sub
+    saturating-sub-requires
+    enum-told-3
+    pow2-requires-2
+    saturating-sub-requires-2
+    returns
+    returns-2
+    returns-3)

@@ -1,0 +1,5 @@
+pub mod Shape
+pub mod Lanes
+pub mod Index
+pub mod Read
+pub mod Steps

@@ -1,0 +1,33 @@
+-- The kinds of entries and all in which they differ. Document 01, "The build" and steps 3 to 6.
+use mathlib.Core.Bool.{cond}
+use Prim.Native.Nat.{ℕ, _+_, _-_, _/_, _^_}
+use lib.Dec.{leb}
+use Rattle.rank_sel.specs.Numbers.{ceilDiv, ilog2}
+use Rattle.inventory.specs.declared.SpanType.{SpanType}
+use Rattle.inventory.specs.declared.SpanType.the-variants.{U16, U32, U64}
+use Rattle.inventory.specs.declared.Shape.{Shape}
+
+-- span to 65,536: U16; to 2^32: U32; above: U64
+abbrev pub fromSpan : ℕ → SpanType
+fromSpan span = cond (leb span 65536) U16 (cond (leb span (2 ^ 32)) U32 U64)
+
+-- q of a U32 entry, by the span
+unfoldable pub log2OnesPerSub32 : ℕ → ℕ → ℕ
+log2OnesPerSub32 span s = s - (ilog2 (span / 32768) + 1)
+
+-- q: neighbouring marks are 2^q ranks apart
+abbrev pub log2Quantum : SpanType → ℕ → ℕ → ℕ
+log2Quantum U16 span s = s
+log2Quantum U32 span s = log2OnesPerSub32 span s
+log2Quantum U64 span s = 0
+
+-- the cells that h marks spill, where 2^m cells stand after the entry's first
+abbrev pub spilledBy : SpanType → ℕ → ℕ → ℕ
+spilledBy U16 h m = 0
+spilledBy U32 h m = ceilDiv h 2 - (2 ^ m - 1)
+spilledBy U64 h m = h - 2 ^ m
+
+abbrev pub shapeOf : SpanType → ℕ → Shape
+shapeOf U16 start = record { width = 16; lanes = 4; base = start; heads = 0; from = 0; tag = 0 }
+shapeOf U32 start = record { width = 32; lanes = 2; base = start; heads = 1; from = 0; tag = 2 ^ 63 }
+shapeOf U64 start = record { width = 64; lanes = 1; base = 0; heads = 1; from = 1; tag = 2 ^ 63 + 2 ^ 62 }

@@ -1,0 +1,211 @@
+// Steps 2 to 6 on any cells: tag, start, place, number and mark.
+ghost use mathlib.Core.Path.{_≡_};
+ghost use Prim.Native.Nat.{_*_, _/_, _^_, _≤_, _<_};
+ghost use lib.ListN.{length};
+ghost use Rattle.inventory.specs.Lanes.{laneOf};
+ghost use Rattle.inventory.specs.Read.{numberAt, placeAt, spanAt, startBy, tagged};
+ghost use Rattle.inventory.specs.Steps.{EntryIn, HeadIn, Placed, Readable, Shaped, decoded, headOf, numberOfMark, readingOf, spaced, spacingAt};
+use crate::Shape;
+use crate::SpanType;
+use crate::Summary;
+use crate::log2_ones_per_sub32;
+use crate::shape_of;
+use rank_sel::ilog2;
+use rank_sel::pow2;
+use rank_sel::saturating_sub;
+use select_in_word::low_bits;
+
+// The low bits of a first cell that say the start; the tag stands above them.
+const START_BITS: u64 = 62;
+
+// An entry, the number of its first cell, and what that cell says.
+pub(crate) struct Head {
+    pub(crate) entry: u64,
+    pub(crate) cell: u64,
+    pub(crate) kind: SpanType,
+    pub(crate) start: u64,
+}
+
+enum Spaced {
+    By(u32),
+    TooSmall,
+}
+
+// Where a number stands: a cell, counted from the first that holds lanes, and a lane.
+enum Spot {
+    Start,
+    Own(u64, u64),
+    Over(u64, u64),
+}
+
+// A number, and whether it is spilled.
+enum Number {
+    Is(u64, bool),
+    Missing,
+}
+
+// The mark of a rank, the selected bits to pass from it on, and whether its number is spilled.
+pub(crate) struct Decoded {
+    pub(crate) head: Head,
+    pub(crate) log2_quantum: u32,
+    pub(crate) mark: u64,
+    pub(crate) residual: u64,
+    pub(crate) spilled: bool,
+}
+
+pub(crate) enum Decoding {
+    Mark(Decoded),
+    Refused,
+}
+
+fn kind_of(cell: u64) -> SpanType
+    ensures { λ r. ⌜ r ≡ tagged (cell / 2 ^ 62) ⌝ }
+{
+    let tag = cell >> START_BITS;
+    if tag < 2 {
+        return SpanType::U16;
+    }
+    if tag == 2 {
+        return SpanType::U32;
+    }
+    SpanType::U64
+}
+
+fn start_of(kind: SpanType, cell: u64) -> u64
+    ensures { λ r. ⌜ r ≡ startBy kind cell ⌝ }
+{
+    match kind {
+        SpanType::U16 => cell,
+        SpanType::U32 => low_bits(cell, START_BITS),
+        SpanType::U64 => low_bits(cell, START_BITS),
+    }
+}
+
+fn read_head(summary: Summary, inventory: &[u64], entry: u64) -> Head
+    requires { ⌜ EntryIn summary (now inventory) entry ⌝ }
+    ensures { λ r. ⌜ r ≡ headOf summary (now (inventory .entry)) entry ⌝ }
+{
+    let cell = entry * (pow2(summary.plan.log2_words_per_subinventory) + 1);
+    let first = inventory[cell as usize];
+    let kind = kind_of(first);
+    let start = start_of(kind, first);
+    Head {
+        entry,
+        cell,
+        kind,
+        start,
+    }
+}
+
+fn span_at(summary: Summary, inventory: &[u64], head: Head) -> u64
+    requires { ⌜ HeadIn summary (now inventory) head ⌝ }
+    ensures { λ r. ⌜ r ≡ spanAt summary (now (inventory .entry)) (head .entry) ⌝ }
+{
+    let next = head.cell + (pow2(summary.plan.log2_words_per_subinventory) + 1);
+    saturating_sub(low_bits(inventory[next as usize], START_BITS), head.start)
+}
+
+// Only a U32 entry's spacing goes by its span: the next entry's cell is read for no other.
+fn quantum_at(summary: Summary, inventory: &[u64], head: Head) -> Spaced
+    requires { ⌜ HeadIn summary (now inventory) head ⌝ }
+    ensures { λ r. ⌜ spaced r ≡ spacingAt summary (now (inventory .entry)) (head .entry) ⌝ }
+{
+    let log2_ones_per_sub16 = summary.plan.log2_ones_per_sub16;
+    let kind = head.kind;
+    match kind {
+        SpanType::U16 => Spaced::By(log2_ones_per_sub16),
+        SpanType::U32 => {
+            let span = span_at(summary, inventory, head);
+            if span < 65537 {
+                return Spaced::TooSmall;
+            }
+            Spaced::By(log2_ones_per_sub32(span, log2_ones_per_sub16))
+        }
+        SpanType::U64 => Spaced::By(0),
+    }
+}
+
+// Where the number of mark i stands.
+fn place_of(shape: Shape, log2_words_per_subinventory: u32, i: u64) -> Spot
+    requires { ⌜ Shaped shape × («log2_words_per_subinventory» ≤ 53) ⌝ }
+    ensures { λ r. ⌜ Placed shape «log2_words_per_subinventory» i r ⌝ }
+{
+    if i < shape.from {
+        return Spot::Start;
+    }
+    let log2_lanes = ilog2(shape.lanes);
+    let near = shape.from + (pow2(log2_words_per_subinventory) - shape.heads) * shape.lanes;
+    if i < near {
+        let n = i - shape.from;
+        return Spot::Own(n >> log2_lanes, low_bits(n, log2_lanes as u64));
+    }
+    let n = i - near;
+    Spot::Over(n >> log2_lanes, low_bits(n, log2_lanes as u64))
+}
+
+// Lane `lane`, of `width` bits, of a cell.
+fn lane_of(width: u64, cell: u64, lane: u64) -> u64
+    requires { ⌜ (0 < width) × (width ≤ 64) × (width * lane < 64) ⌝ }
+    ensures { λ r. ⌜ r ≡ laneOf width cell lane ⌝ }
+{
+    (cell >> (width * lane)) & (u64::MAX >> (64 - width))
+}
+
+// The number of mark i. The spilled cell's number may pass 2^64: it is held to the count before it is reckoned.
+fn number_at(summary: Summary, inventory: &[u64], spill: &[u64], head: Head, i: u64) -> Number
+    requires { ⌜ HeadIn summary (now inventory) head × (summary .«spill_len» ≤ length (now spill)) ⌝ }
+    ensures { λ r. ⌜ r ≡ numberOfMark summary (now (inventory .entry)) (now (spill .entry)) (head .entry) i ⌝ }
+{
+    let first = head.cell + 1;
+    let kind = head.kind;
+    let shape = shape_of(kind, head.start);
+    let spot = place_of(shape, summary.plan.log2_words_per_subinventory, i);
+    match spot {
+        Spot::Start => Number::Is(head.start, false),
+        Spot::Own(n, lane) => {
+            let at = (first + shape.heads + n) as usize;
+            Number::Is(lane_of(shape.width, inventory[at], lane), false)
+        }
+        Spot::Over(n, lane) => {
+            let from = inventory[first as usize];
+            if saturating_sub(summary.spill_len, from) <= n {
+                return Number::Missing;
+            }
+            Number::Is(lane_of(shape.width, spill[(from + n) as usize], lane), true)
+        }
+    }
+}
+
+pub(crate) fn decode(summary: Summary, inventory: &[u64], spill: &[u64], rank: u64) -> Decoding
+    requires { ⌜ Readable summary (now inventory) (now spill) rank ⌝ }
+    ensures { λ r. ⌜ decoded r ≡ readingOf summary (now (inventory .entry)) (now (spill .entry)) rank ⌝ }
+{
+    let plan = summary.plan;
+    let head = read_head(summary, inventory, rank >> plan.log2_ones_per_inventory);
+    let Spaced::By(log2_quantum) = quantum_at(summary, inventory, head) else {
+        return Decoding::Refused;
+    };
+    let subrank = low_bits(rank, plan.log2_ones_per_inventory as u64);
+    let Number::Is(number, spilled) = number_at(
+        summary,
+        inventory,
+        spill,
+        head,
+        subrank >> log2_quantum,
+    ) else {
+        return Decoding::Refused;
+    };
+    let kind = head.kind;
+    let base = shape_of(kind, head.start).base;
+    if saturating_sub(plan.len, base) <= number {
+        return Decoding::Refused;
+    }
+    let residual = low_bits(subrank, log2_quantum as u64);
+    Decoding::Mark(Decoded {
+        head,
+        log2_quantum,
+        mark: base + number,
+        residual,
+        spilled,
+    })
+}

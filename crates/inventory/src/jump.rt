@@ -1,0 +1,206 @@
+// The four entries that read an index: jump, hint, store and dwell.
+ghost use mathlib.Core.Path.{_≡_};
+ghost use Prim.Native.Nat.{_-_, _*_, _/_, _^_, _≤_, _<_};
+ghost use lib.ListN.{length};
+ghost use Rattle.rank_sel.specs.Numbers.{ceilDiv};
+ghost use Rattle.rank_sel.specs.Outcome.{answered, orRefuse};
+ghost use Rattle.rank_sel.specs.Seek.{seek};
+ghost use Rattle.bit_record.specs.Record.{Admitted, bitAt, chosen, selected};
+ghost use Rattle.inventory.specs.Index.{ranksOf};
+ghost use Rattle.inventory.specs.Shape.{spilledBy};
+ghost use Rattle.inventory.specs.Read.{PointsAt, cellsOf, dwellBy, dwellOf, hintOf, hinted, positionOf, selectOf, subinventoryOf};
+ghost use Rattle.inventory.specs.Steps.{Countable, Readable, reasonOf};
+use crate::SpanType;
+use crate::Summary;
+use crate::decode::Decoded;
+use crate::decode::Decoding;
+use crate::decode::decode;
+use crate::spilled_by;
+use crate::tests::Tested;
+use crate::tests::ceil_shift;
+use crate::tests::test_call;
+use bit_record::Place;
+use bit_record::Polarity;
+use bit_record::seek_from;
+use rank_sel::Answer;
+use rank_sel::Refusal;
+use rank_sel::max;
+use rank_sel::min;
+use rank_sel::pow2;
+use spacing::Parameters;
+
+// The mark of a rank and the mark's own rank, or what the call was turned down for.
+pub enum Hinted {
+    Mark(u64, u64),
+    Refused(Refusal),
+}
+
+fn reason(tested: Tested) -> Refusal
+    ensures { λ r. ⌜ r ≡ reasonOf tested ⌝ }
+{
+    match tested {
+        Tested::Passed => Refusal::SummaryUnlawful,
+        Tested::Refused(refusal) => refusal,
+    }
+}
+
+fn is_selected(words: &[u64], polarity: Polarity, p: u64) -> bool
+    requires { ⌜ p / 64 < length (now words) ⌝ }
+    ensures { λ r. ⌜ r ≡ chosen polarity (bitAt (now (words .entry)) p) ⌝ }
+{
+    let is_one = (words[(p / 64) as usize] >> (p % 64)) % 2 == 1;
+    match polarity {
+        Polarity::Ones => is_one,
+        Polarity::Zeros => !is_one,
+    }
+}
+
+// Step 7. A selected mark with none to pass is found by its one bit, before any word is counted.
+fn seek_mark(words: &[u64], plan: Parameters, mark: u64, residual: u64) -> Answer
+    requires { ⌜ Admitted (now words) (plan .len) × (mark < plan .len) ⌝ }
+    ensures { λ r. ⌜ answered r ≡ orRefuse 10 (seek (selected (plan .polarity) (now (words .entry)) (plan .len)) (plan .len - mark) mark residual) ⌝ }
+{
+    let polarity = plan.polarity;
+    if residual == 0 {
+        if is_selected(words, polarity, mark) {
+            return Answer::Value(mark);
+        }
+    }
+    match seek_from(words, plan.len, polarity, mark, residual) {
+        Place::At(p) => Answer::Value(p),
+        Place::Nowhere => Answer::Refused(Refusal::CellsUnlawful),
+    }
+}
+
+// Steps 2 to 7.
+fn position(words: &[u64], summary: Summary, inventory: &[u64], spill: &[u64], rank: u64) -> Answer
+    requires { ⌜ Admitted (now words) (summary .plan .len) × Readable summary (now inventory) (now spill) rank ⌝ }
+    ensures { λ r. ⌜ answered r ≡ positionOf (now (words .entry)) summary (now (inventory .entry)) (now (spill .entry)) rank ⌝ }
+{
+    let plan = summary.plan;
+    let Decoding::Mark(decoded) = decode(summary, inventory, spill, rank) else {
+        return Answer::Refused(Refusal::CellsUnlawful);
+    };
+    let head = decoded.head;
+    let kind = head.kind;
+    match kind {
+        SpanType::U16 | SpanType::U32 => seek_mark(words, plan, decoded.mark, decoded.residual),
+        SpanType::U64 => Answer::Value(decoded.mark),
+    }
+}
+
+// Jump: the position of a rank.
+pub fn select(
+    words: &[u64],
+    summary: Summary,
+    inventory: &[u64],
+    spill: &[u64],
+    rank: u64,
+) -> Answer
+    ensures { λ r. ⌜ answered r ≡ selectOf (now (words .entry)) summary (now (inventory .entry)) (now (spill .entry)) rank ⌝ }
+{
+    let tested = test_call(words, summary, inventory, spill, rank);
+    let Tested::Passed = tested else {
+        return Answer::Refused(reason(tested));
+    };
+    position(words, summary, inventory, spill, rank)
+}
+
+// Hint: a rank's mark and the mark's rank. It looks for no bit, so it can answer where jump says 10.
+pub fn hint(words: &[u64], summary: Summary, inventory: &[u64], spill: &[u64], rank: u64) -> Hinted
+    ensures { λ r. ⌜ hinted r ≡ hintOf (now (words .entry)) summary (now (inventory .entry)) (now (spill .entry)) rank ⌝ }
+{
+    let tested = test_call(words, summary, inventory, spill, rank);
+    let Tested::Passed = tested else {
+        return Hinted::Refused(reason(tested));
+    };
+    let Decoding::Mark(decoded) = decode(summary, inventory, spill, rank) else {
+        return Hinted::Refused(Refusal::CellsUnlawful);
+    };
+    Hinted::Mark(decoded.mark, rank - decoded.residual)
+}
+
+// The cells that the entry of a decoded rank spills, by the build's rule for what was read.
+fn spilled_at(plan: Parameters, decoded: Decoded) -> u64
+    requires { ⌜ Countable plan decoded ⌝ }
+    ensures { λ r. ⌜ r ≡ spilledBy (decoded .head .kind) (ceilDiv (ranksOf plan (decoded .head .entry)) (2 ^ decoded .«log2_quantum»)) (plan .«log2_words_per_subinventory») ⌝ }
+{
+    let head = decoded.head;
+    let kind = head.kind;
+    let per_entry = pow2(plan.log2_ones_per_inventory);
+    let ranks = min(per_entry, plan.num - head.entry * per_entry);
+    spilled_by(
+        kind,
+        ceil_shift(ranks, decoded.log2_quantum),
+        plan.log2_words_per_subinventory,
+    )
+}
+
+// Store: the cells where a rank's mark is recorded, a part of one of the two lent slices; empty where hint refuses.
+pub fn subinventory<'a>(
+    words: &[u64],
+    summary: Summary,
+    inventory: &'a [u64],
+    spill: &'a [u64],
+    rank: u64,
+) -> &'a [u64]
+    ensures contents { λ r. ⌜ now r ≡ cellsOf (now (inventory .entry)) (now (spill .entry)) (subinventoryOf (now (words .entry)) summary (now (inventory .entry)) (now (spill .entry)) rank) ⌝ }
+    ensures place { λ r. ⌜ PointsAt (inventory .entry) (spill .entry) (subinventoryOf (now (words .entry)) summary (now (inventory .entry)) (now (spill .entry)) rank) r ⌝ }
+{
+    let Tested::Passed = test_call(words, summary, inventory, spill, rank) else {
+        return &inventory[0..0];
+    };
+    let Decoding::Mark(decoded) = decode(summary, inventory, spill, rank) else {
+        return &inventory[0..0];
+    };
+    let head = decoded.head;
+    let own = head.cell as usize + 1;
+    if decoded.spilled {
+        let from = inventory[own];
+        let n = min(spilled_at(summary.plan, decoded), summary.spill_len - from);
+        let start = from as usize;
+        let end = (from + n) as usize;
+        return &spill[start..end];
+    }
+    let end = own + pow2(summary.plan.log2_words_per_subinventory) as usize;
+    &inventory[own..end]
+}
+
+// The one place for the dwell of two positions.
+fn dwell_by(a: u64, b: u64) -> Answer
+    ensures { λ r. ⌜ answered r ≡ dwellBy a b ⌝ }
+{
+    if b < a {
+        return Answer::Refused(Refusal::CellsUnlawful);
+    }
+    Answer::Value(b - a)
+}
+
+// Dwell: from the position of rank a to that of rank b.
+pub fn dwell(
+    words: &[u64],
+    summary: Summary,
+    inventory: &[u64],
+    spill: &[u64],
+    a: u64,
+    b: u64,
+) -> Answer
+    ensures { λ r. ⌜ answered r ≡ dwellOf (now (words .entry)) summary (now (inventory .entry)) (now (spill .entry)) a b ⌝ }
+{
+    let tested = test_call(words, summary, inventory, spill, max(a, b));
+    let Tested::Passed = tested else {
+        return Answer::Refused(reason(tested));
+    };
+    if b < a {
+        return Answer::Refused(Refusal::RanksFall);
+    }
+    let from = position(words, summary, inventory, spill, a);
+    let Answer::Value(p) = from else {
+        return from;
+    };
+    let to = position(words, summary, inventory, spill, b);
+    let Answer::Value(o) = to else {
+        return to;
+    };
+    dwell_by(p, o)
+}
