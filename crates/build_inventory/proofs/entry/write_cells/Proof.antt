@@ -1,0 +1,82 @@
+use mathlib.Core.Path.{_≡_, refl, ap, _∙_}
+use mathlib.Core.List.{_++_}
+use Prim.Native.Nat.{ℕ, _+_, _-_, _*_, _≤_}
+use native.Mathlib.Nat.{zero-mul}
+use native.Mathlib.Omega.{arith}
+use lib.ListN.{length, drop, length-set}
+use borrow.Author.Needs.{needs}
+use Rattle.inventory.specs.Index.{stream}
+use Rattle.inventory.proofs.Lanes.{turn-more}
+use Rattle.build_inventory.specs.Positions.{posIn}
+use Rattle.build_inventory.specs.Stream.{AtMark}
+use Rattle.build_inventory.proofs.Positions.{marked}
+use Rattle.build_inventory.proofs.Stream.{few-all, stream-none, stream-more}
+use Rattle.build_inventory.proofs.entry.write_cells.Statement.{statement}
+use Rattle.build_inventory.proofs.entry.write_cells.Tie as tie
+
+abbrev Inv-loop : tie.InvT-loop
+Inv-loop words plan x cells₀ n at₀ k₀ i₀ cells at k i = (i ≤ n) × (length cells ≡ length cells₀) × (k ≡ k₀ + i * x .shape .lanes) × AtMark (posIn words plan) x at k × (cells ≡ stream (posIn words plan) x k₀ i ++ drop i cells₀)
+
+abbrev μ-loop : tie.MeasureT-loop
+μ-loop words plan x cells₀ n at₀ k₀ i₀ cells at k i = n - i
+
+loop-holds : tie.Need-loop-holds Inv-loop μ-loop
+loop-holds c =
+    let a = c .before .before .args in
+    (omega arith, refl, omega (arith, zero-mul (a .x .shape .lanes)), c .before .before .pre .2, stream-none (posIn (a .words .now) (a .plan)) (a .x) (a .c .k) (a .cells .now))
+
+next-cell-requires : tie.Need-next-cell-requires Inv-loop μ-loop
+next-cell-requires c κs =
+    let a = c .before .before .before .before .args in
+    let r = c .before .before .before .before .pre in
+    (r .0, r .1, c .before .loop .inv .3, omega (arith, few-all (c .before .loop .i) (a .x .shape .lanes) (marked (a .words .now) (a .plan) (r .0) (a .x) (r .1) .few-lanes)))
+
+mul-cells : tie.Need-mul-cells Inv-loop μ-loop
+mul-cells c = search needs
+
+slice-write-cells : tie.Need-slice-write-cells Inv-loop μ-loop
+slice-write-cells c = omega arith
+
+add-i : tie.Need-add-i Inv-loop μ-loop
+add-i c = omega arith
+
+loop-less : tie.Need-loop-less Inv-loop μ-loop
+loop-less c = omega arith
+
+loop-again : tie.Need-loop-again Inv-loop μ-loop
+loop-again c =
+    let a = c .before .before .before .before .before .before .args in
+    let l = c .before .before .before .loop in
+    let e = c .before .next-cell .ensures in (
+      omega arith,
+      simp length-set (l .inv .1),
+      omega (arith, e .number, l .inv .2, turn-more (l .i) (a .x .shape .lanes)),
+      e .stands,
+      stream-more (posIn (a .words .now) (a .plan)) (a .x) (a .c .k) (a .cells .now) (l .cells) (l .i) (l .k) (c .before .next-cell .result .value) (l .inv .4) (omega arith) (l .inv .2) (e .gave),
+    )
+
+same-length : tie.Need-same-length Inv-loop μ-loop
+same-length c = c .before .loop .inv .1
+
+returns : tie.Need-returns Inv-loop μ-loop
+returns c =
+    let a = c .before .before .before .before .args in
+    let v = c .before .loop .inv in
+    let e : c .before .loop .i ≡ a .n = omega arith in
+    record { cells = rw e at (v .4); number = v .2 ∙ ap (λ (z : ℕ). a .c .k + z * a .x .shape .lanes) e; stands = v .3 }
+
+pub write-cells-spec : {M : Type 1} → statement M
+write-cells-spec =
+    tie.close
+    (tie.spec
+    Inv-loop
+    μ-loop
+    loop-holds
+    next-cell-requires
+    mul-cells
+    slice-write-cells
+    add-i
+    loop-less
+    loop-again
+    same-length
+    returns)

@@ -1,0 +1,4 @@
+pub mod Positions
+pub mod Stream
+pub mod Compare
+pub mod Build
