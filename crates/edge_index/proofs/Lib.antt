@@ -1,1 +1,6 @@
+pub mod Sound
+pub mod Right
+pub mod Promises
+pub mod Refusals
+pub mod Padding
 pub mod Table

@@ -1,6 +1,18 @@
-// The public face: every entry. What is promised of them is in specs/, proved in proofs/.
+// The public face: every entry of document 01. What is promised of them is in specs/, proved in proofs/.
 pub use bit_record::Polarity;
 pub use bit_record::count;
+pub use build_inventory::Built;
+pub use build_inventory::Checked;
+pub use build_inventory::Sized;
+pub use build_inventory::build;
+pub use build_inventory::check;
+pub use build_inventory::size;
+pub use inventory::Hinted;
+pub use inventory::Summary;
+pub use inventory::dwell;
+pub use inventory::hint;
+pub use inventory::select;
+pub use inventory::subinventory;
 pub use rank_sel::Answer;
 pub use rank_sel::Refusal;
 pub use rank_sel::refusal_number;

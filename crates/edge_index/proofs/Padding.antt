@@ -1,0 +1,150 @@
+-- Padding alters nothing: the words come in by what they select, and by whether they suffice.
+use mathlib.Core.Bool.{Bool, _&&_}
+use mathlib.Core.List.{List, _++_}
+use mathlib.Core.Path.{_≡_, refl, sym, ap, _∙_, subst}
+use Prim.Native.Nat.{ℕ, _-_, _^_}
+use lib.Dec.{ltb}
+use lib.ListN.{length, drop}
+use Rattle.rank_sel.specs.Outcome.{Outcome, answer, refused, refuseIf, andThen}
+use Rattle.rank_sel.specs.Seek.{select}
+use Rattle.bit_record.specs.Record.{SameRecord}
+use Rattle.bit_record.specs.declared.Polarity.{Polarity}
+use Rattle.bit_record.proofs.Same.{selected-same, words-same, num-same, count-same}
+use Rattle.spacing.specs.Spacing.{planOf}
+use Rattle.spacing.specs.declared.Choice.{Choice}
+use Rattle.spacing.specs.declared.Parameters.{Parameters}
+use Rattle.spacing.proofs.Facts.{plan-facts}
+use Rattle.inventory.specs.Index.{inventoryLenOf, inventoryOf, spillOf, summaryOf}
+use Rattle.inventory.specs.Read.{positionOf, tested, selectOf, hintOf, dwellOf, subinventoryOf}
+use Rattle.inventory.specs.declared.Summary.{Summary}
+use Rattle.build_inventory.specs.Build.{fitted, measured, sizeOf, buildOf, inventoryAfter, spillAfter, sameSummary, checkOf}
+use Rattle.build_inventory.specs.Compare.{sameIndex}
+use Rattle.build_inventory.specs.Positions.{posIn}
+use Rattle.build_inventory.proofs.Outcomes.{admission}
+use Rattle.edge_index.specs.Padding.{Alike}
+use Rattle.edge_index.specs.Promises.{inventoryHolds, spillHolds}
+
+-- by cases on an outcome
+abbrev byOutcome : {A X : Type 0} → (A → X) → (ℕ → X) → Outcome A → X
+byOutcome f g (answer a) = f a
+byOutcome f g (refused n) = g n
+
+by-then : {A B : Type 0} (o : Outcome A) (go : A → Outcome B) → andThen o go ≡ byOutcome go refused o
+by-then (answer a) go = refl
+by-then (refused n) go = refl
+
+by-inventory : (ws inv : List ℕ) (o : Outcome Summary)
+    → inventoryAfter ws inv o ≡ byOutcome (λ t. inventoryOf (posIn ws (t .plan)) (t .plan) ++ drop (t .«inventory_len») inv) (λ n. inv) o
+by-inventory ws inv (answer t) = refl
+by-inventory ws inv (refused n) = refl
+
+by-spill : (ws sp : List ℕ) (o : Outcome Summary)
+    → spillAfter ws sp o ≡ byOutcome (λ t. spillOf (posIn ws (t .plan)) (t .plan) ++ drop (t .«spill_len») sp) (λ n. sp) o
+by-spill ws sp (answer t) = refl
+by-spill ws sp (refused n) = refl
+
+module _ (len : ℕ) (ws vs : List ℕ) (s : SameRecord len ws vs) where
+  -- ---- the entries that take a choice
+  plan-same : (pol : Polarity) (choice : Choice) → planOf ws len pol choice ≡ planOf vs len pol choice
+  unfolding planOf
+  plan-same pol choice = simp (words-same len ws vs s, num-same len ws vs s)
+
+  -- the bit of each rank
+  pos-same : (p : Parameters) → p .len ≡ len → posIn ws p ≡ posIn vs p
+  pos-same p e = ap (λ (f : ℕ → Bool). select f (p .len)) (selected-same (p .len) ws vs (subst (λ (n : ℕ). SameRecord n ws vs) (sym e) s) (p .polarity))
+
+  -- what follows a plan depends on the words by the bit of each rank
+  then-same : {A : Type 0} (pol : Polarity) (choice : Choice) (go : (ℕ → ℕ) → Parameters → Outcome A)
+      → andThen (planOf ws len pol choice) (λ p. go (posIn ws p) p) ≡ andThen (planOf vs len pol choice) (λ p. go (posIn vs p) p)
+  then-same {A} pol choice go = at (planOf ws len pol choice) refl (plan-same pol choice)
+    where
+      at : (o : Outcome Parameters) → planOf ws len pol choice ≡ o → planOf ws len pol choice ≡ planOf vs len pol choice
+          → andThen (planOf ws len pol choice) (λ p. go (posIn ws p) p) ≡ andThen (planOf vs len pol choice) (λ p. go (posIn vs p) p)
+      at (answer p) e d = rw (sym d ∙ e, e) (ap (λ (f : ℕ → ℕ). go f p) (pos-same p (plan-facts ws len pol choice p e .length)))
+      at (refused n) e d = rw (sym d ∙ e, e)
+
+  measured-same : (pol : Polarity) (choice : Choice) (most : ℕ) → measured ws len pol choice most ≡ measured vs len pol choice most
+  unfolding measured fitted
+  measured-same pol choice most = then-same pol choice (λ f p. refuseIf (ltb most (inventoryLenOf p)) 6 (answer (summaryOf f p)))
+
+  build-same : (pol : Polarity) (choice : Choice) (cells spill : ℕ) → buildOf ws len pol choice cells spill ≡ buildOf vs len pol choice cells spill
+  unfolding buildOf
+  build-same pol choice cells spill = rw (measured-same pol choice cells)
+
+  -- what follows a build likewise
+  after-same : {X : Type 0} (pol : Polarity) (choice : Choice) (cells spill : ℕ) (after : (ℕ → ℕ) → Summary → X) (else : ℕ → X)
+      → byOutcome (λ t. after (posIn ws (t .plan)) t) else (buildOf ws len pol choice cells spill)
+      ≡ byOutcome (λ t. after (posIn vs (t .plan)) t) else (buildOf vs len pol choice cells spill)
+  after-same {X} pol choice cells spill after else = at (buildOf ws len pol choice cells spill) refl (build-same pol choice cells spill)
+    where
+      at : (o : Outcome Summary) → buildOf ws len pol choice cells spill ≡ o → buildOf ws len pol choice cells spill ≡ buildOf vs len pol choice cells spill
+          → byOutcome (λ t. after (posIn ws (t .plan)) t) else (buildOf ws len pol choice cells spill)
+          ≡ byOutcome (λ t. after (posIn vs (t .plan)) t) else (buildOf vs len pol choice cells spill)
+      at (answer t) e d =
+          let c = plan-facts ws len pol choice (t .plan) (admission ws len pol choice cells spill t e .planned) in
+          rw (sym d ∙ e, e) (ap (λ (f : ℕ → ℕ). after f t) (pos-same (t .plan) (c .length)))
+      at (refused n) e d = rw (sym d ∙ e, e)
+
+  check-same : (pol : Polarity) (choice : Choice) (t : Summary) (inv sp : List ℕ) → checkOf ws len pol choice t inv sp ≡ checkOf vs len pol choice t inv sp
+  unfolding checkOf
+  check-same pol choice t inv sp =
+      by-then (buildOf ws len pol choice (length inv) (length sp)) _
+      ∙ after-same pol choice (length inv) (length sp) (λ f u. answer (sameSummary t u && sameIndex f (u .plan) inv sp)) refused
+      ∙ sym (by-then (buildOf vs len pol choice (length inv) (length sp)) _)
+
+  inventory-same : (pol : Polarity) (choice : Choice) (inv sp : List ℕ) → inventoryHolds ws len pol choice inv sp ≡ inventoryHolds vs len pol choice inv sp
+  inventory-same pol choice inv sp =
+      by-inventory ws inv (buildOf ws len pol choice (length inv) (length sp))
+      ∙ after-same pol choice (length inv) (length sp) (λ f t. inventoryOf f (t .plan) ++ drop (t .«inventory_len») inv) (λ n. inv)
+      ∙ sym (by-inventory vs inv (buildOf vs len pol choice (length inv) (length sp)))
+
+  spill-same : (pol : Polarity) (choice : Choice) (inv sp : List ℕ) → spillHolds ws len pol choice inv sp ≡ spillHolds vs len pol choice inv sp
+  spill-same pol choice inv sp =
+      by-spill ws sp (buildOf ws len pol choice (length inv) (length sp))
+      ∙ after-same pol choice (length inv) (length sp) (λ f t. spillOf f (t .plan) ++ drop (t .«spill_len») sp) (λ n. sp)
+      ∙ sym (by-spill vs sp (buildOf vs len pol choice (length inv) (length sp)))
+
+  -- ---- the readers
+  module _ (t : Summary) (inv sp : List ℕ) (e : t .plan .len ≡ len) where
+    here : SameRecord (t .plan .len) ws vs
+    here = subst (λ (n : ℕ). SameRecord n ws vs) (sym e) s
+
+    tests-same : {A : Type 0} (rest : Outcome A) → tested ws t inv sp rest ≡ tested vs t inv sp rest
+    unfolding tested
+    tests-same rest = rw (words-same (t .plan .len) ws vs here)
+
+    position-same : (r : ℕ) → positionOf ws t inv sp r ≡ positionOf vs t inv sp r
+    unfolding positionOf
+    position-same r = rw (selected-same (t .plan .len) ws vs here (t .plan .polarity))
+
+    hint-same : (r : ℕ) → hintOf ws t inv sp r ≡ hintOf vs t inv sp r
+    unfolding hintOf
+    hint-same r = tests-same _
+
+    select-same : (r : ℕ) → selectOf ws t inv sp r ≡ selectOf vs t inv sp r
+    unfolding selectOf
+    select-same r = tests-same _ ∙ rw (position-same r)
+
+    store-same : (r : ℕ) → subinventoryOf ws t inv sp r ≡ subinventoryOf vs t inv sp r
+    unfolding subinventoryOf
+    store-same r = rw (hint-same r)
+
+    dwell-same : (a b : ℕ) → dwellOf ws t inv sp a b ≡ dwellOf vs t inv sp a b
+    unfolding dwellOf
+    dwell-same a b = tests-same _ ∙ rw (position-same a, position-same b)
+
+  pub padding-alike : Alike len ws vs
+  unfolding sizeOf
+  padding-alike = record {
+    count = count-same len ws vs s;
+    plan = plan-same;
+    size = λ pol choice. rw (measured-same pol choice (2 ^ 64 - 1));
+    build = λ pol choice inv sp. build-same pol choice (length inv) (length sp);
+    buildInventory = inventory-same;
+    buildSpill = spill-same;
+    check = check-same;
+    select = λ t inv sp r e. select-same t inv sp e r;
+    hint = λ t inv sp r e. hint-same t inv sp e r;
+    store = λ t inv sp r e. store-same t inv sp e r;
+    dwell = λ t inv sp a b e. dwell-same t inv sp e a b;
+  }

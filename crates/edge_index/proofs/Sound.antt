@@ -1,0 +1,162 @@
+-- Cells that hold the index have demand 3.
+use mathlib.Core.Bool.{Bool, true, false, cond}
+use mathlib.Core.List.{List}
+use mathlib.Core.Logic.{⊎-elim}
+use mathlib.Core.Path.{_≡_, refl, sym, ap, _∙_, subst}
+use Prim.Native.Nat.{ℕ, suc, _+_, _-_, _*_, _/_, _%_, _^_, _≤_, _<_, max}
+use native.Mathlib.Nat.{add-mul, mul-div-cancel, div-add-mod', mod-lt, div-eq-of-lt-le}
+use native.Mathlib.Omega.{arith}
+use lib.Dec.{ltb}
+use lib.ListN.{length, getD}
+use lib.Pow.{pow-pos}
+use borrow.Author.Tests.{le-ltb}
+use Rattle.rank_sel.specs.Outcome.{answer}
+use Rattle.rank_sel.specs.Rank.{rank}
+use Rattle.rank_sel.proofs.Numbers.{lt-or-le}
+use Rattle.rank_sel.proofs.Rank.{rank-one}
+use Rattle.rank_sel.proofs.Select.{select-sought, select-rank, select-below, select-lt, select-le}
+use Rattle.bit_record.specs.Record.{selected, numSelected}
+use Rattle.bit_record.specs.declared.Polarity.{Polarity}
+use Rattle.spacing.specs.Spacing.{N, L, planOf}
+use Rattle.spacing.specs.declared.Choice.{Choice}
+use Rattle.spacing.specs.declared.Parameters.{Parameters}
+use Rattle.spacing.proofs.Facts.{PlanFacts, plan-admitted, plan-facts, plan-num}
+use Rattle.inventory.specs.Index.{entriesOf, stride, inventoryLenOf, ranksOf, mark, bound, startOf, spillStart, summaryOf}
+use Rattle.inventory.specs.Read.{decode}
+use Rattle.inventory.specs.declared.Summary.{Summary}
+use Rattle.inventory.proofs.Marks.{Rising, start-here}
+use Rattle.inventory.proofs.Placed.{Placed}
+use Rattle.inventory.proofs.ReadBack.{kind-heads, kind-spills, kind-read, start-read, quantum-read, second-read, unused-read, first-rank, mark-in, decode-read}
+use Rattle.inventory.proofs.Ranks.{entry-in, in-entry, rank-entry, rank-sub, rank-in}
+use Rattle.inventory.proofs.Sums.{tile, tile-one}
+use Rattle.edge_index.specs.Sound.{bitOf, Holds, qOf, marksOf, spilledOf, markRank, nextRank, Met, Sound}
+
+-- the bits of a planned record rise
+pub rising : (ws : List ℕ) (len : ℕ) (pol : Polarity) (p : Parameters) → PlanFacts ws len pol p → Rising (bitOf ws len pol) p
+unfolding numSelected
+rising ws len pol p c = record {
+  rises = λ r s l h. select-lt (selected pol ws len) len r s l (omega (arith, plan-num ws len pol p c));
+  below = λ r h. omega (arith, c .length, select-below (selected pol ws len) len r (omega (arith, plan-num ws len pol p c)));
+  short = omega (arith, c .length, plan-admitted ws len pol p c .short);
+  smallL = c .of .smallL;
+  spaced = omega (arith, c .of .spaced);
+}
+
+-- each rank lies in one entry
+pub holds-rank : (p : Parameters) (r : ℕ) → r < N p → Holds p (r / 2 ^ L p) r
+holds-rank p r h =
+    let d = div-add-mod' r (2 ^ L p) in
+    let m = mod-lt r (pow-pos (L p)) in
+    record { from = omega arith; to = omega (arith, add-mul (r / 2 ^ L p) 1 (2 ^ L p)) }
+
+pub holds-one : (p : Parameters) (r e : ℕ) → Holds p e r → r / 2 ^ L p ≡ e
+holds-one p r e h = div-eq-of-lt-le (2 ^ L p) (h .from) (omega arith)
+
+module _ (ws : List ℕ) (len : ℕ) (pol : Polarity) (choice : Choice) (p : Parameters) (planned : planOf ws len pol choice ≡ answer p) where
+  abbrev f : ℕ → Bool
+  f = selected pol ws len
+
+  abbrev pos : ℕ → ℕ
+  pos = bitOf ws len pol
+
+  facts : PlanFacts ws len pol p
+  facts = plan-facts ws len pol choice p planned
+
+  g : Rising pos p
+  g = rising ws len pol p facts
+
+  -- the bit of a rank below N
+  num : (r : ℕ) → r < N p → r < rank f len
+  unfolding numSelected
+  num r h = omega (arith, plan-num ws len pol p facts)
+
+  bit-rank : (r : ℕ) → r < N p → rank f (pos r) ≡ r
+  bit-rank r h = select-rank f len r (num r h)
+
+  -- a rank stands before the next mark's
+  before-next : (e s : ℕ) → s < ranksOf p e → e * 2 ^ L p + s < nextRank pos p e (s / 2 ^ qOf pos p e)
+  before-next e s l = go (ltb (s / 2 ^ qOf pos p e + 1) (marksOf pos p e))
+    where
+      go : (b : Bool) → e * 2 ^ L p + s < cond b (markRank pos p e (s / 2 ^ qOf pos p e + 1)) (markRank pos p (e + 1) 0)
+      go true = omega (arith, add-mul (s / 2 ^ qOf pos p e) 1 (2 ^ qOf pos p e), div-add-mod' s (2 ^ qOf pos p e), mod-lt s (pow-pos (qOf pos p e)))
+      go false = omega (arith, add-mul e 1 (2 ^ L p), rank-in p e s l)
+
+  module _ (inv sp : List ℕ) (w : Placed pos p inv sp) where
+    abbrev t : Summary
+    t = summaryOf pos p
+
+    -- the mark of subrank s, by its rank
+    decode-at : (e s : ℕ) → e < entriesOf p → s < ranksOf p e
+        → decode t inv sp (e * 2 ^ L p + s) ≡ answer (record { mark = pos (markRank pos p e (s / 2 ^ qOf pos p e)); rank = markRank pos p e (s / 2 ^ qOf pos p e) })
+    unfolding mark
+    decode-at e s h l = decode-read pos p g (facts .of .spaced) inv sp w e h s l ∙ rw (first-rank pos p e)
+
+    marked : (e k : ℕ) → e < entriesOf p → k < marksOf pos p e
+        → decode t inv sp (markRank pos p e k) ≡ answer (record { mark = pos (markRank pos p e k); rank = markRank pos p e k })
+    marked e k h l = rw (mul-div-cancel k (pow-pos (qOf pos p e))) at (decode-at e (k * 2 ^ qOf pos p e) h (mark-in pos p e k l))
+
+    between : (e k : ℕ) → e < entriesOf p → k + 1 < marksOf pos p e
+        → rank f (pos (markRank pos p e (k + 1))) ≡ rank f (suc (pos (markRank pos p e k))) + (2 ^ qOf pos p e - 1)
+    between e k h l =
+        let a = rank-in p e ((k + 1) * 2 ^ qOf pos p e) (mark-in pos p e (k + 1) l) .0 in
+        let m = add-mul k 1 (2 ^ qOf pos p e) in
+        let b : markRank pos p e k < N p = omega arith in
+        omega (
+          arith,
+          bit-rank (markRank pos p e (k + 1)) a,
+          bit-rank (markRank pos p e k) b,
+          rank-one f (pos (markRank pos p e k)) (select-sought f len (markRank pos p e k) (num (markRank pos p e k) b) .here),
+          pow-pos (qOf pos p e),
+        )
+
+    met-at : (e s : ℕ) → e < entriesOf p → s < ranksOf p e → Met f pos p t inv sp (e * 2 ^ L p + s) e s
+    met-at e s h l =
+        let a = rank-in p e s l .0 in
+        let q : ℕ = qOf pos p e in
+        let d = div-add-mod' s (2 ^ q) in
+        let m : markRank pos p e (s / 2 ^ q) + s % 2 ^ q ≡ e * 2 ^ L p + s = omega arith in
+        record {
+          mark = decode-at e s h l;
+          from = subst (λ (r : ℕ). pos (markRank pos p e (s / 2 ^ q)) ≤ pos r) m (select-le f len (markRank pos p e (s / 2 ^ q)) (s % 2 ^ q) (rw m (num (e * 2 ^ L p + s) a)));
+          next = λ n. g .rises (e * 2 ^ L p + s) (nextRank pos p e (s / 2 ^ q)) (before-next e s l) n;
+          passed = omega (arith, bit-rank (e * 2 ^ L p + s) a, bit-rank (markRank pos p e (s / 2 ^ q)) (omega arith));
+          few = mod-lt s (pow-pos q);
+        }
+
+    met : (r : ℕ) → r < N p → Met f pos p t inv sp r (r / 2 ^ L p) (r % 2 ^ L p)
+    met r h =
+        subst (λ (n : ℕ). Met f pos p t inv sp n (r / 2 ^ L p) (r % 2 ^ L p)) (div-add-mod' r (2 ^ L p))
+        (met-at (r / 2 ^ L p) (r % 2 ^ L p) (rank-entry p r h) (rank-sub p r h))
+
+    closing : getD inv (entriesOf p * stride p) 0 ≡ max 1 len
+    unfolding startOf bound
+    closing =
+        let l : N p ≤ entriesOf p * 2 ^ L p = ⊎-elim
+        (λ (h : entriesOf p * 2 ^ L p < N p). absurd (omega (arith, in-entry p (entriesOf p) h))) (λ (h : N p ≤ entriesOf p * 2 ^ L p). h)
+        (lt-or-le (entriesOf p * 2 ^ L p) (N p)) in
+        w .closing ∙ rw (le-ltb (entriesOf p * 2 ^ L p) (N p) l, facts .length)
+
+    -- cells placed, and long enough, have demand 3
+    pub placed-sound : inventoryLenOf p ≤ length inv → spillStart pos p (entriesOf p) ≤ length sp → Sound ws len pol choice t inv sp
+    unfolding inventoryLenOf spillStart summaryOf
+    placed-sound a b = record {
+      plan = planned;
+      inventoryLen = refl;
+      inventoryHeld = a;
+      spillHeld = b;
+      held = λ r h. (r / 2 ^ L p, rank-entry p r h, holds-rank p r h);
+      alone = λ r d e h k. sym (holds-one p r d h) ∙ holds-one p r e k;
+      marked = marked;
+      between = between;
+      starts = λ e h. start-read pos p g (facts .of .spaced) inv sp w e h ∙ start-here pos p e (entry-in p e h);
+      kinds = kind-read pos p g (facts .of .spaced) inv sp w;
+      quanta = quantum-read pos p g (facts .of .spaced) inv sp w;
+      closing = ap (λ (n : ℕ). getD inv n 0) (omega arith) ∙ closing;
+      none16 = kind-spills pos p;
+      second = λ e h n. second-read pos p g (facts .of .spaced) inv sp w e h (kind-heads pos p e n);
+      spillLen = refl;
+      tiled = λ c h. let i = tile (spilledOf pos p) (entriesOf p) c h in (i .0, i .1, record { from = i .2; to = i .3 });
+      apart = λ c d e x y. tile-one (spilledOf pos p) c d e (x .from) (x .to) (y .from) (y .to);
+      unused = λ e i h m. unused-read pos p g (facts .of .spaced) inv sp w e h i m;
+      met = met;
+    }

@@ -1,0 +1,103 @@
+-- Demand 1: each refusal is given exactly where its condition holds and none before it in the order does. Document 01,
+-- "When a call is turned down". The conditions are those that the definitions name.
+use mathlib.Core.Bool.{Bool, cond, _&&_}
+use mathlib.Core.List.{List, [], _∷_, _++_}
+use mathlib.Core.Logic.{_↔_}
+use mathlib.Core.Option.{Option, none, some}
+use mathlib.Core.Path.{_≡_}
+use Prim.Native.Nat.{ℕ, _-_, _^_, _≤_, _<_}
+use lib.Count.{ones}
+use lib.Dec.{ltb}
+use lib.ListN.{length}
+use Rattle.rank_sel.specs.Outcome.{Outcome, answer, refused, andThen}
+use Rattle.select_in_word.specs.Select.{selectInWord}
+use Rattle.bit_record.specs.Record.{lenTooLarge, tooFewWords, numSelected, countOf}
+use Rattle.bit_record.specs.declared.Polarity.{Polarity}
+use Rattle.spacing.specs.Spacing.{rule, planFor, onesPerInventoryTooLarge, wordsPerSubinventoryTooLarge, overheadNotPositive, planOf}
+use Rattle.spacing.specs.declared.Choice.{Choice}
+use Rattle.spacing.specs.declared.Parameters.{Parameters}
+use Rattle.inventory.specs.Index.{inventoryLenOf, summaryOf}
+use Rattle.inventory.specs.Read.{decode, positionOf, unlawful, rankTooLarge, selectOf, hintOf, dwellBy, dwellOf, empty, subinventoryOf}
+use Rattle.inventory.specs.declared.Summary.{Summary}
+use Rattle.build_inventory.specs.Build.{sizesOf, sizeOf, buildOf, sameSummary, checkOf}
+use Rattle.build_inventory.specs.Compare.{sameIndex}
+use Rattle.build_inventory.specs.Positions.{posIn}
+
+-- a condition, and the number that it gives
+abbrev pub Conditions : Type 0
+Conditions = List (Bool × ℕ)
+
+-- the number of the first that holds
+abbrev pub firstOf : Conditions → Option ℕ
+firstOf [] = none
+firstOf (c ∷ cs) = cond (c .0) (some (c .1)) (firstOf cs)
+
+-- an outcome is refused by the first condition that holds, and is the rest where none does
+pub record InOrder {A : Type 0} (o : Outcome A) (cs : Conditions) (rest : Outcome A) : Type 0 where
+  pub first : (n : ℕ) → firstOf cs ≡ some n → o ≡ refused n
+  pub else : firstOf cs ≡ none → o ≡ rest
+
+-- 10 is the only refusal
+abbrev pub Only10 : {A : Type 0} → Outcome A → Type 0
+Only10 o = (n : ℕ) → o ≡ refused n → n ≡ 10
+
+-- ---- of a record: 1, 2; and of a choice: 3, 4, 5
+abbrev pub ofRecord : List ℕ → ℕ → Conditions
+ofRecord ws len = (lenTooLarge len, 1) ∷ (tooFewWords ws len, 2) ∷ []
+
+abbrev pub ofChoice : List ℕ → ℕ → Polarity → Choice → Conditions
+ofChoice ws len pol choice =
+    (onesPerInventoryTooLarge (numSelected pol ws len) len (rule choice), 3)
+    ∷ (wordsPerSubinventoryTooLarge (rule choice), 4)
+    ∷ (overheadNotPositive (rule choice), 5)
+    ∷ []
+
+-- ---- of a summary and cells: 1, 2, 9, 6, 7
+abbrev pub ofIndex : List ℕ → Summary → List ℕ → List ℕ → Conditions
+ofIndex ws t inv sp =
+    ofRecord ws (t .plan .len)
+    ++ ((unlawful t, 9) ∷ (ltb (length inv) (t .«inventory_len»), 6) ∷ (ltb (length sp) (t .«spill_len»), 7) ∷ [])
+
+-- the plan of a record and a choice, where nothing turns them down
+abbrev pub planIn : List ℕ → ℕ → Polarity → Choice → Parameters
+planIn ws len pol choice = planFor pol len (numSelected pol ws len) (rule choice)
+
+module _ (ws : List ℕ) (len : ℕ) (pol : Polarity) (choice : Choice) where
+  -- its summary
+  abbrev pub summaryIn : Summary
+  summaryIn = summaryOf (posIn ws (planIn ws len pol choice)) (planIn ws len pol choice)
+
+  -- 1 to 5, then 6 where the inventory count is over so many cells
+  abbrev pub toSix : ℕ → Conditions
+  toSix most = (ofRecord ws len ++ ofChoice ws len pol choice) ++ ((ltb most (inventoryLenOf (planIn ws len pol choice)), 6) ∷ [])
+
+  -- 7 where the spill count is
+  abbrev pub toSeven : ℕ → ℕ → Conditions
+  toSeven cells spill = toSix cells ++ ((ltb spill (summaryIn .«spill_len»), 7) ∷ [])
+
+  pub record MakersRefuse : Type 0 where
+    pub count : InOrder (countOf ws len pol) (ofRecord ws len) (answer (numSelected pol ws len))
+    pub plan : InOrder (planOf ws len pol choice) (ofRecord ws len ++ ofChoice ws len pol choice) (answer (planIn ws len pol choice))
+    pub size : InOrder (sizeOf ws len pol choice) (toSix (2 ^ 64 - 1)) (answer (sizesOf summaryIn))
+    pub build : (cells spill : ℕ) → InOrder (buildOf ws len pol choice cells spill) (toSeven cells spill) (answer summaryIn)
+    pub check : (t : Summary) (inv sp : List ℕ)
+        → InOrder (checkOf ws len pol choice t inv sp) (toSeven (length inv) (length sp))
+        (answer (sameSummary t summaryIn && sameIndex (posIn ws (summaryIn .plan)) (summaryIn .plan) inv sp))
+
+module _ (ws : List ℕ) (t : Summary) (inv sp : List ℕ) where
+  pub record ReadersRefuse : Type 0 where
+    pub select : (r : ℕ) → InOrder (selectOf ws t inv sp r) (ofIndex ws t inv sp ++ ((rankTooLarge t r, 8) ∷ [])) (positionOf ws t inv sp r)
+    pub select-10 : (r : ℕ) → Only10 (positionOf ws t inv sp r)
+    pub hint : (r : ℕ) → InOrder (hintOf ws t inv sp r) (ofIndex ws t inv sp ++ ((rankTooLarge t r, 8) ∷ [])) (decode t inv sp r)
+    pub hint-10 : (r : ℕ) → Only10 (decode t inv sp r)
+    -- 10 for a before b, then for a negative dwell
+    pub dwell : (a b : ℕ) → InOrder (dwellOf ws t inv sp a b)
+        (ofIndex ws t inv sp ++ ((rankTooLarge t a, 8) ∷ (rankTooLarge t b, 8) ∷ (ltb b a, 11) ∷ []))
+        (andThen (positionOf ws t inv sp a) (λ p. andThen (positionOf ws t inv sp b) (λ o. dwellBy p o)))
+    pub dwell-10 : (a b : ℕ) → Only10 (andThen (positionOf ws t inv sp a) (λ p. andThen (positionOf ws t inv sp b) (λ o. dwellBy p o)))
+    -- store is empty exactly where hint refuses
+    pub store : (r : ℕ) → (subinventoryOf ws t inv sp r ≡ empty) ↔ ((n : ℕ) × (hintOf ws t inv sp r ≡ refused n))
+
+-- in-word select: 8 exactly where the rank is not below the word's ones
+abbrev pub InWordRefuses : Type 0
+InWordRefuses = (w k : ℕ) → w < 2 ^ 64 → (selectInWord w k ≡ refused 8) ↔ (ones w ≤ k)

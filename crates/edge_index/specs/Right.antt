@@ -1,0 +1,53 @@
+-- Demand 2: on an index that has demand 3, the readers answer each rank below N, and refuse by 8 and 11 alone.
+use mathlib.Core.Bool.{true}
+use mathlib.Core.List.{List}
+use mathlib.Core.Path.{_≡_}
+use Prim.Native.Nat.{ℕ, _+_, _-_, _/_, _%_, _^_, _≤_, _<_}
+use Rattle.rank_sel.specs.Outcome.{answer, refused}
+use Rattle.rank_sel.specs.Rank.{rank}
+use Rattle.bit_record.specs.Record.{selected}
+use Rattle.bit_record.specs.declared.Polarity.{Polarity}
+use Rattle.spacing.specs.Spacing.{N, L}
+use Rattle.inventory.specs.Read.{Place, start, own, over, placeAt, markNumber, selectOf, hintOf, dwellOf, Part, ofInventory, ofSpill, empty, subinventoryOf}
+use Rattle.inventory.specs.declared.Summary.{Summary}
+use Rattle.edge_index.specs.Sound.{bitOf, qOf, markRank}
+
+-- position p is the bit of rank r: below len, selected, with exactly r selected positions before it (Vigna's select)
+pub record Bit (ws : List ℕ) (len : ℕ) (pol : Polarity) (r p : ℕ) : Type 0 where
+  pub below : p < len
+  pub here : selected pol ws len p ≡ true
+  pub before : rank (selected pol ws len) p ≡ r
+
+-- a part of the cells has the cell at a place; a U64 entry's start is not one of its numbers, and goes with its own cells
+abbrev pub Within : Place → Part → Type 0
+Within start (ofInventory c n) = Unit {0}
+Within start (ofSpill c n) = ⊥
+Within start empty = ⊥
+Within (own a j) (ofInventory c n) = (c ≤ a) × (a < c + n)
+Within (own a j) (ofSpill c n) = ⊥
+Within (own a j) empty = ⊥
+Within (over a j) (ofInventory c n) = ⊥
+Within (over a j) (ofSpill c n) = (c ≤ a) × (a < c + n)
+Within (over a j) empty = ⊥
+
+module _ (ws : List ℕ) (len : ℕ) (pol : Polarity) (t : Summary) (inv sp : List ℕ) where
+  abbrev pos : ℕ → ℕ
+  pos = bitOf ws len pol
+
+  -- the rank of rank r's mark
+  abbrev markOf : ℕ → ℕ
+  markOf r = markRank pos (t .plan) (r / 2 ^ L (t .plan)) (r % 2 ^ L (t .plan) / 2 ^ qOf pos (t .plan) (r / 2 ^ L (t .plan)))
+
+  pub record Right : Type 0 where
+    pub select : (r : ℕ) → r < N (t .plan) → (p : ℕ) × (selectOf ws t inv sp r ≡ answer p) × Bit ws len pol r p
+    pub hint : (r : ℕ) → r < N (t .plan)
+        → (p : ℕ) × (hintOf ws t inv sp r ≡ answer (record { mark = p; rank = markOf r })) × Bit ws len pol (markOf r) p
+    pub dwell : (a b : ℕ) → a ≤ b → b < N (t .plan)
+        → (p q : ℕ) × (dwellOf ws t inv sp a b ≡ answer (q - p)) × (p ≤ q) × Bit ws len pol a p × Bit ws len pol b q
+    pub store : (r : ℕ) → r < N (t .plan) → Within (placeAt t inv (r / 2 ^ L (t .plan)) (markNumber t inv r)) (subinventoryOf ws t inv sp r)
+    -- nothing else is refused, and these by their own numbers: none of 1, 2, 6, 7, 9 and 10 is said
+    pub selectPast : (r : ℕ) → N (t .plan) ≤ r → selectOf ws t inv sp r ≡ refused 8
+    pub hintPast : (r : ℕ) → N (t .plan) ≤ r → hintOf ws t inv sp r ≡ refused 8
+    pub dwellPastA : (a b : ℕ) → N (t .plan) ≤ a → dwellOf ws t inv sp a b ≡ refused 8
+    pub dwellPastB : (a b : ℕ) → a < N (t .plan) → N (t .plan) ≤ b → dwellOf ws t inv sp a b ≡ refused 8
+    pub dwellFalls : (a b : ℕ) → b < a → a < N (t .plan) → dwellOf ws t inv sp a b ≡ refused 11
