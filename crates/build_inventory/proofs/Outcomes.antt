@@ -3,36 +3,23 @@ use mathlib.Core.Path.{_≡_, refl, sym, ap, subst, _∙_}
 use mathlib.Core.Bool.{Bool, true, false}
 use mathlib.Core.List.{List, _++_}
 use Prim.Native.Nat.{ℕ, _≤_}
-use native.Mathlib.Omega.{arith}
 use lib.Dec.{ltb}
 use lib.ListN.{drop}
 use borrow.Author.Tests.{ltb-false}
 use Rattle.rank_sel.specs.Outcome.{Outcome, answer, refused, numberOf, refuseIf, andThen}
 use Rattle.rank_sel.specs.declared.Refusal.{Refusal}
+use Rattle.rank_sel.proofs.Outcome.{answer-is, not-refused, then-answer}
 use Rattle.bit_record.specs.declared.Polarity.{Polarity}
 use Rattle.spacing.specs.Spacing.{PlanOf, planOf}
 use Rattle.spacing.specs.declared.Choice.{Choice}
 use Rattle.spacing.specs.declared.Parameters.{Parameters}
 use Rattle.spacing.proofs.Facts.{plan-facts}
-use Rattle.inventory.specs.Index.{entriesOf, inventoryLenOf, spillStart, inventoryOf, spillOf, summaryOf}
+use Rattle.inventory.specs.Index.{inventoryLenOf, inventoryOf, spillOf, summaryOf}
 use Rattle.inventory.specs.declared.Summary.{Summary}
 use Rattle.build_inventory.specs.Build.{fitted, measured, buildOf, BuiltAs}
-use Rattle.build_inventory.specs.Positions.{posIn}
+use Rattle.build_inventory.specs.Positions.{posIn, spillLenOf}
 use Rattle.build_inventory.specs.Stream.{Filled}
 use Rattle.build_inventory.specs.declared.Built.the-variants as Built·v
-
--- an answer goes on, a refusal stays
-pub then-answer : {A B : Type 0} (o : Outcome A) (go : A → Outcome B) (b : B) → andThen o go ≡ answer b → (a : A) × (o ≡ answer a) × (go a ≡ answer b)
-then-answer (answer a) go b e = (a, refl, e)
-then-answer (refused n) go b e = let z : _≡_ {A = ℕ} 0 1 = cc in absurd (omega arith)
-
--- a test that was passed
-pub not-refused : {A : Type 0} (t : Bool) (n : ℕ) (o : Outcome A) (a : A) → refuseIf t n o ≡ answer a → (t ≡ false) × (o ≡ answer a)
-not-refused true n o a e = let z : _≡_ {A = ℕ} 0 1 = cc in absurd (omega arith)
-not-refused false n o a e = (refl, e)
-
-answer-is : {A : Type 0} {a b : A} → answer a ≡ answer b → a ≡ b
-answer-is e = cc
 
 -- a summary by its fields
 abbrev pub summaryBy : Parameters → ℕ → ℕ → Summary
@@ -44,11 +31,11 @@ planned-of ws len pol choice p e = plan-facts ws len pol choice p e .of
 
 -- ---- the count of the inventory's cells decides on 6, and stands in the summary
 pub fitted-count : (ws : List ℕ) (p : Parameters) (most : ℕ)
-    → andThen (refuseIf (ltb most (inventoryLenOf p)) 6 (answer (inventoryLenOf p))) (λ n. answer (summaryBy p n (spillStart (posIn ws p) p (entriesOf p)))) ≡ fitted ws p most
+    → andThen (refuseIf (ltb most (inventoryLenOf p)) 6 (answer (inventoryLenOf p))) (λ n. answer (summaryBy p n (spillLenOf ws p))) ≡ fitted ws p most
 unfolding fitted summaryOf
 fitted-count ws p most = go (ltb most (inventoryLenOf p))
   where
-    go : (t : Bool) → andThen (refuseIf t 6 (answer (inventoryLenOf p))) (λ n. answer (summaryBy p n (spillStart (posIn ws p) p (entriesOf p)))) ≡ refuseIf t 6 (answer (summaryBy p (inventoryLenOf p) (spillStart (posIn ws p) p (entriesOf p))))
+    go : (t : Bool) → andThen (refuseIf t 6 (answer (inventoryLenOf p))) (λ n. answer (summaryBy p n (spillLenOf ws p))) ≡ refuseIf t 6 (answer (summaryBy p (inventoryLenOf p) (spillLenOf ws p)))
     go true = refl
     go false = refl
 
@@ -59,7 +46,7 @@ module _ (ws : List ℕ) (len : ℕ) (pol : Polarity) (choice : Choice) (cells s
     pub plans : PlanOf ws (t .plan)
     pub is : t ≡ summaryOf (posIn ws (t .plan)) (t .plan)
     pub room : inventoryLenOf (t .plan) ≤ cells
-    pub spill-room : spillStart (posIn ws (t .plan)) (t .plan) (entriesOf (t .plan)) ≤ spill
+    pub spill-room : spillLenOf ws (t .plan) ≤ spill
 
 module _ (ws : List ℕ) (len : ℕ) (pol : Polarity) (choice : Choice) (cells spill : ℕ) (t : Summary) where
   pub admission : buildOf ws len pol choice cells spill ≡ answer t → Admission ws len pol choice cells spill t
@@ -85,7 +72,7 @@ module _ (ws inv₀ sp₀ : List ℕ) (o : Outcome Summary) where
   unfolding summaryOf
   built-as t inv sp e is w =
       let n : inventoryLenOf (t .plan) ≡ t .«inventory_len» = ap (λ (z : Summary). z .«inventory_len») (sym is) in
-      let k : spillStart (posIn ws (t .plan)) (t .plan) (entriesOf (t .plan)) ≡ t .«spill_len» = ap (λ (z : Summary). z .«spill_len») (sym is) in
+      let k : spillLenOf ws (t .plan) ≡ t .«spill_len» = ap (λ (z : Summary). z .«spill_len») (sym is) in
       subst (λ (z : Outcome Summary). BuiltAs ws z inv₀ inv sp₀ sp (Built·v.Summary t)) e record {
         answers = refl;
         inventory = w .inventory ∙ ap (λ (z : ℕ). inventoryOf (posIn ws (t .plan)) (t .plan) ++ drop z inv₀) n;

@@ -2,13 +2,11 @@
 use mathlib.Core.Path.{_≡_, subst⁻¹}
 use mathlib.Core.Logic.{⊎-elim}
 use mathlib.Core.List.{List}
-use mathlib.Core.Option.{Option·getD}
-use Prim.Native.Nat.{ℕ, _+_, _-_, _*_, _^_, _≤_, _<_, max}
+use Prim.Native.Nat.{ℕ, _+_, _*_, _^_, _≤_, _<_}
 use native.Mathlib.Nat.{zero-mul}
 use native.Mathlib.Omega.{arith}
 use borrow.Author.Tests.{lt-ltb, le-ltb}
 use Rattle.rank_sel.specs.Rank.{rank}
-use Rattle.rank_sel.specs.Seek.{seek}
 use Rattle.rank_sel.proofs.Numbers.{lt-or-le}
 use Rattle.rank_sel.proofs.Select.{select-lt, select-below, select-seek, select-none, select-first, select-no-first}
 use Rattle.bit_record.specs.Record.{selected, numSelected}
@@ -18,11 +16,7 @@ use Rattle.inventory.specs.Index.{mark, bound, startOf}
 use Rattle.inventory.specs.declared.Entry.{Entry}
 use Rattle.inventory.proofs.Lanes.{turn-more}
 use Rattle.inventory.proofs.Marks.{Rising, Marked, entry-marked}
-use Rattle.build_inventory.specs.Positions.{posIn, EntryIn}
-
--- what a seek finds, or the end of the last span
-abbrev pub sought : List ℕ → Parameters → ℕ → ℕ → ℕ
-sought ws p from k = Option·getD (seek (selected (p .polarity) ws (p .len)) (p .len - from) from k) (max 1 (p .len))
+use Rattle.build_inventory.specs.Positions.{posIn, seekOrEnd, EntryIn}
 
 module _ (ws : List ℕ) (p : Parameters) (h : PlanOf ws p) where
   count : N p ≡ rank (selected (p .polarity) ws (p .len)) (p .len)
@@ -42,7 +36,7 @@ module _ (ws : List ℕ) (p : Parameters) (h : PlanOf ws p) where
   marked x i = subst⁻¹ (λ (z : Entry). Marked (posIn ws p) p z) (i .is) (entry-marked (posIn ws p) p rising (i .number) (i .within))
 
   -- k ranks on from the bit of rank r
-  pub bound-next : (r k from n : ℕ) → r < N p → from ≡ posIn ws p r → n ≡ k → sought ws p from n ≡ bound (posIn ws p) p (r + k)
+  pub bound-next : (r k from n : ℕ) → r < N p → from ≡ posIn ws p r → n ≡ k → seekOrEnd ws p from n ≡ bound (posIn ws p) p (r + k)
   unfolding bound
   bound-next r k from n l ef en = ⊎-elim
       (λ (g : r + k < N p). rw (ef, en, lt-ltb (r + k) (N p) g, select-seek (selected (p .polarity) ws (p .len)) (p .len) r k (omega (arith, count))))
@@ -50,7 +44,7 @@ module _ (ws : List ℕ) (p : Parameters) (h : PlanOf ws p) where
       rw (ef, en, le-ltb (r + k) (N p) g, select-none (selected (p .polarity) ws (p .len)) (p .len) r k (omega (arith, count)) (omega (arith, count))))
       (lt-or-le (r + k) (N p))
 
-  pub bound-first : sought ws p 0 0 ≡ startOf (posIn ws p) p 0
+  pub bound-first : seekOrEnd ws p 0 0 ≡ startOf (posIn ws p) p 0
   unfolding startOf bound
   bound-first = rw (zero-mul (2 ^ L p)) (⊎-elim
       (λ (g : 0 < N p). rw (lt-ltb 0 (N p) g, select-first (selected (p .polarity) ws (p .len)) (p .len) (omega (arith, count))))
@@ -59,7 +53,7 @@ module _ (ws : List ℕ) (p : Parameters) (h : PlanOf ws p) where
 
   -- and from one mark to the next
   pub mark-next : (x : Entry) → Marked (posIn ws p) p x → (k from n : ℕ) → k + 1 < x .marks → from ≡ mark (posIn ws p) x k → n ≡ 2 ^ x .«log2_quantum»
-      → sought ws p from n ≡ mark (posIn ws p) x (k + 1)
+      → seekOrEnd ws p from n ≡ mark (posIn ws p) x (k + 1)
   unfolding mark
   mark-next x s k from n l ef en =
       let q = 2 ^ x .«log2_quantum» in

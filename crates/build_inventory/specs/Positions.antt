@@ -1,17 +1,33 @@
 -- The index of a record: the words come in by what they select alone.
 use mathlib.Core.List.{List}
+use mathlib.Core.Option.{Option·getD}
 use mathlib.Core.Path.{_≡_}
-use Prim.Native.Nat.{ℕ, _*_, _^_, _<_}
-use Rattle.rank_sel.specs.Seek.{select}
+use Prim.Native.Nat.{ℕ, _-_, _*_, _^_, _≤_, _<_, max}
+use lib.ListN.{length}
+use Rattle.rank_sel.specs.Seek.{seek, select}
 use Rattle.bit_record.specs.Record.{selected}
-use Rattle.spacing.specs.Spacing.{N, L}
+use Rattle.spacing.specs.Spacing.{N, L, PlanOf}
 use Rattle.spacing.specs.declared.Parameters.{Parameters}
-use Rattle.inventory.specs.Index.{entryOf}
+use Rattle.inventory.specs.Index.{entriesOf, inventoryLenOf, entryOf, spillStart}
 use Rattle.inventory.specs.declared.Entry.{Entry}
 
 -- the bit of rank r
 abbrev pub posIn : List ℕ → Parameters → ℕ → ℕ
 posIn ws p = select (selected (p .polarity) ws (p .len)) (p .len)
+
+-- k selected bits on from a position; past the last one, the end of the last span
+abbrev pub seekOrEnd : List ℕ → Parameters → ℕ → ℕ → ℕ
+seekOrEnd ws p from k = Option·getD (seek (selected (p .polarity) ws (p .len)) (p .len - from) from k) (max 1 (p .len))
+
+-- how many cells the index spills
+abbrev pub spillLenOf : List ℕ → Parameters → ℕ
+spillLenOf ws p = spillStart (posIn ws p) p (entriesOf p)
+
+-- cells that a record's index has room in
+pub record Lent (ws : List ℕ) (p : Parameters) (inv sp : List ℕ) : Type 0 where
+  pub plans : PlanOf ws p
+  pub cells : inventoryLenOf p ≤ length inv
+  pub spills : spillLenOf ws p ≤ length sp
 
 -- x is an entry of the record's index
 pub record EntryIn (ws : List ℕ) (p : Parameters) (x : Entry) : Type 0 where

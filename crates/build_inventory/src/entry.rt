@@ -1,13 +1,11 @@
 // One entry: what is reckoned of it, the stream of its cells, and the step that writes it.
-ghost use mathlib.Core.Option.{Option·getD};
 ghost use mathlib.Core.Path.{_≡_};
-ghost use Prim.Native.Nat.{_+_, _-_, _*_, _^_, _≤_, _<_, max as maximum};
+ghost use Prim.Native.Nat.{_+_, _*_, _^_, _≤_, _<_};
 ghost use lib.ListN.{length};
-ghost use Rattle.rank_sel.specs.Seek.{seek};
-ghost use Rattle.bit_record.specs.Record.{Admitted, selected};
+ghost use Rattle.bit_record.specs.Record.{Admitted};
 ghost use Rattle.spacing.specs.Spacing.{L, M, N, PlanOf};
 ghost use Rattle.inventory.specs.Index.{bound, entryOf, lane, packed, startOf, stride};
-ghost use Rattle.build_inventory.specs.Positions.{EntryIn, posIn};
+ghost use Rattle.build_inventory.specs.Positions.{EntryIn, posIn, seekOrEnd};
 ghost use Rattle.build_inventory.specs.Stream.{AtMark, Stepped, Wrote, WroteEntry, WroteOwn};
 use bit_record::Place;
 use bit_record::seek_from;
@@ -36,7 +34,7 @@ pub struct Step {
 // The selected position with k others from `from` on before it, or the end of the last span.
 pub fn seek_or_end(words: &[u64], plan: Parameters, from: u64, k: u64) -> u64
     requires { ⌜ Admitted (now words) (plan .len) ⌝ }
-    ensures { λ r. ⌜ r ≡ Option·getD (seek (selected (plan .polarity) (now (words .entry)) (plan .len)) (plan .len - from) from k) (maximum 1 (plan .len)) ⌝ }
+    ensures { λ r. ⌜ r ≡ seekOrEnd (now (words .entry)) plan from k ⌝ }
 {
     let polarity = plan.polarity;
     match seek_from(words, plan.len, polarity, from, k) {

@@ -7,9 +7,9 @@ ghost use lib.Dec.{ltb};
 ghost use lib.ListN.{length, take};
 ghost use Rattle.rank_sel.specs.Outcome.{answer, answered, refuseIf};
 ghost use Rattle.spacing.specs.Spacing.{L, M, N, PlanOf, maxLog2Words};
-ghost use Rattle.inventory.specs.Index.{entriesOf, inventoryLenOf, ownCells, spillCells, spillStart, startOf, stride};
+ghost use Rattle.inventory.specs.Index.{entriesOf, inventoryLenOf, ownCells, spillCells, startOf, stride};
 ghost use Rattle.build_inventory.specs.Compare.{Compared, ComparedOwn, sameIndex, sameList};
-ghost use Rattle.build_inventory.specs.Positions.{EntryIn, posIn};
+ghost use Rattle.build_inventory.specs.Positions.{EntryIn, Lent, posIn, spillLenOf};
 ghost use Rattle.build_inventory.specs.Stream.{AtMark, Filled};
 use crate::entry::Cursor;
 use crate::entry::entry_at;
@@ -67,7 +67,7 @@ fn first_start(words: &[u64], plan: Parameters) -> u64
 // How many cells the index spills.
 pub fn spill_count(words: &[u64], plan: Parameters) -> u64
     requires { ⌜ PlanOf (now words) plan ⌝ }
-    ensures { λ r. ⌜ r ≡ spillStart (posIn (now (words .entry)) plan) plan (entriesOf plan) ⌝ }
+    ensures { λ r. ⌜ r ≡ spillLenOf (now (words .entry)) plan ⌝ }
 {
     let count = entry_count(plan);
     let mut e: u64 = 0;
@@ -84,16 +84,16 @@ pub fn spill_count(words: &[u64], plan: Parameters) -> u64
 
 // Writes the whole index, each entry through its own part of the cells.
 pub fn fill(words: &[u64], plan: Parameters, inventory: &mut [u64], spill: &mut [u64])
-    requires { ⌜ PlanOf (now words) plan × (inventoryLenOf plan ≤ length (now inventory)) × (spillStart (posIn (now words) plan) plan (entriesOf plan) ≤ length (now spill)) ⌝ }
+    requires { ⌜ Lent (now words) plan (now inventory) (now spill) ⌝ }
     ensures { λ r. ⌜ Filled (posIn (now (words .entry)) plan) plan (now (inventory .entry)) (now (inventory .exit)) (now (spill .entry)) (now (spill .exit)) ⌝ }
 {
-    let count = entry_count(plan);
+    let entries = entry_count(plan);
     let cells = entry_len(plan) as usize;
     let mut e: u64 = 0;
     let mut at: usize = 0;
     let mut spilled: usize = 0;
     let mut start = first_start(words, plan);
-    while e < count {
+    while e < entries {
         let x = entry_at(words, plan, e, start);
         write_entry(
             words,
@@ -204,7 +204,7 @@ fn same_entry(
 
 // Whether the cells are those that `fill` writes.
 pub fn same_index(words: &[u64], plan: Parameters, inventory: &[u64], spill: &[u64]) -> bool
-    requires { ⌜ PlanOf (now words) plan × (inventoryLenOf plan ≤ length (now inventory)) × (spillStart (posIn (now words) plan) plan (entriesOf plan) ≤ length (now spill)) ⌝ }
+    requires { ⌜ Lent (now words) plan (now inventory) (now spill) ⌝ }
     ensures { λ r. ⌜ r ≡ sameIndex (posIn (now (words .entry)) plan) plan (now (inventory .entry)) (now (spill .entry)) ⌝ }
 {
     let count = entry_count(plan);

@@ -1,14 +1,12 @@
 // The build of an index: its size, its cells, and the check of a summary and cells that somebody hands in.
 ghost use mathlib.Core.Bool.{_&&_};
 ghost use mathlib.Core.Path.{_≡_};
-ghost use Prim.Native.Nat.{_≤_};
 ghost use lib.ListN.{length};
 ghost use Rattle.rank_sel.specs.Outcome.{answer};
 ghost use Rattle.spacing.specs.Spacing.{PlanOf};
-ghost use Rattle.inventory.specs.Index.{entriesOf, inventoryLenOf, spillStart};
 ghost use Rattle.build_inventory.specs.Build.{BuiltAs, buildOf, built, checkOf, checked, fitted, measured, samePlan, samePolarity, sameSummary, sizeOf, sized};
 ghost use Rattle.build_inventory.specs.Compare.{sameIndex};
-ghost use Rattle.build_inventory.specs.Positions.{posIn};
+ghost use Rattle.build_inventory.specs.Positions.{Lent, posIn};
 
 mod entry;
 mod index;
@@ -175,7 +173,7 @@ fn verdict(
     inventory: &[u64],
     spill: &[u64],
 ) -> Checked
-    requires { ⌜ PlanOf (now words) (right .plan) × (inventoryLenOf (right .plan) ≤ length (now inventory)) × (spillStart (posIn (now words) (right .plan)) (right .plan) (entriesOf (right .plan)) ≤ length (now spill)) ⌝ }
+    requires { ⌜ Lent (now words) (right .plan) (now inventory) (now spill) ⌝ }
     ensures { λ r. ⌜ checked r ≡ answer (sameSummary summary right && sameIndex (posIn (now (words .entry)) (right .plan)) (right .plan) (now (inventory .entry)) (now (spill .entry))) ⌝ }
 {
     if !same_summary(summary, right) {

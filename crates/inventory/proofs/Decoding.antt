@@ -3,7 +3,7 @@ use mathlib.Core.Bool.{Bool, true, false}
 use mathlib.Core.List.{List}
 use mathlib.Core.Path.{_≡_, refl, sym, ap, _∙_}
 use Prim.Native.Nat.{ℕ, _+_, _-_, _/_, _%_, _^_, _≤_, _<_}
-use native.Mathlib.Nat.{le-div-iff-mul-le, mul-le-mul-right, div-add-mod'}
+use native.Mathlib.Nat.{mul-le-mul-right, div-mul-le-self}
 use native.Mathlib.Omega.{arith}
 use lib.Dec.{leb}
 use lib.ListN.{getD}
@@ -11,44 +11,32 @@ use lib.Pow.{pow-pos}
 use borrow.Author.Tests.{le-leb, lt-leb}
 use Rattle.rank_sel.specs.Outcome.{Outcome, answer, refused, refuseIf}
 use Rattle.spacing.specs.Spacing.{N, L, S}
+use Rattle.rank_sel.proofs.Ceil.{below-ceil}
 use Rattle.inventory.specs.Index.{stride, entriesOf, inventoryLenOf}
 use Rattle.inventory.specs.Lanes.{laneOf}
 use Rattle.inventory.specs.Read.{kindAt, spanAt, quantumAt, shapeAt, Place, start, own, over, placeAt, numberAt, spanTooSmall, markAt, entryOfRank, markNumber, residual}
 use Rattle.inventory.specs.Steps.{headOf, EntryIn, HeadIn, isOver, numbered, numberOfMark, spacingAt, readingOf, Readable}
-use Rattle.inventory.specs.Shape.{log2OnesPerSub32, log2Quantum, shapeOf}
+use Rattle.inventory.specs.Shape.{shapeOf}
 use Rattle.inventory.specs.declared.Shape.{Shape}
-use Rattle.inventory.specs.declared.SpanType.{SpanType}
-use Rattle.inventory.specs.declared.SpanType.the-variants.{U16, U32, U64}
+use Rattle.inventory.proofs.Marks.{quantum-le}
 use Rattle.inventory.specs.declared.Summary.{Summary}
 use Rattle.inventory.specs.declared.decode.Head.{Head}
 use Rattle.inventory.specs.declared.decode.Number.the-variants.{Is, Missing}
 
 -- ---- the entry of a rank below N
--- the entry of r is one of ceil(n / p)
-entry-lt : (r n p : ℕ) → 0 < p → r < n → r / p + 1 ≤ (n + (p - 1)) / p
-entry-lt r n p h l =
-    let d = div-add-mod' r p in
-    le-div-iff-mul-le {k = p} {x = r / p + 1} {y = n + (p - 1)} h .1 (omega arith)
-
 pub entry-in : (t : Summary) (inv sp : List ℕ) (r : ℕ) → Readable t inv sp r → EntryIn t inv (entryOfRank t r)
 unfolding inventoryLenOf entriesOf
 entry-in t inv sp r a = record {
   smallM = a .smallM;
   within =
-      let l = mul-le-mul-right (stride (t .plan)) (entry-lt r (N (t .plan)) (2 ^ L (t .plan)) (pow-pos (L (t .plan))) (a .below)) in
+      let l = mul-le-mul-right (stride (t .plan)) (below-ceil (r / 2 ^ L (t .plan)) (N (t .plan)) (2 ^ L (t .plan)) (pow-pos (L (t .plan))) (omega (arith, div-mul-le-self r (2 ^ L (t .plan)), a .below))) in
       omega (arith, l, a .counted, a .own);
 }
 
 -- ---- the spacing
-quantum-by : (k : SpanType) (span s : ℕ) → log2Quantum k span s ≤ s
-unfolding log2OnesPerSub32
-quantum-by U16 span s = omega arith
-quantum-by U32 span s = omega arith
-quantum-by U64 span s = omega arith
-
 pub quantum-at-low : (t : Summary) (inv : List ℕ) (e : ℕ) → quantumAt t inv e ≤ S (t .plan)
 unfolding quantumAt
-quantum-at-low t inv e = quantum-by (kindAt t inv e) (spanAt t inv e) (S (t .plan))
+quantum-at-low t inv e = quantum-le (kindAt t inv e) (spanAt t inv e) (S (t .plan))
 
 spaced-none : (b : Bool) (q : ℕ) → refused 10 ≡ refuseIf b 10 (answer q) → b ≡ true
 spaced-none true q e = refl

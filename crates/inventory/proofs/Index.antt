@@ -11,7 +11,8 @@ use lib.Pow.{pow-pos}
 use Rattle.spacing.specs.Spacing.{N, L, M}
 use Rattle.spacing.specs.declared.Parameters.{Parameters}
 use Rattle.inventory.specs.Index.{entriesOf, stride, entryOf, ownCells, spillCells, spillStart, inventoryTo, spillTo}
-use Rattle.inventory.proofs.Marks.{ceil-lt, few-heads, few-spilled, own-length, spill-length}
+use Rattle.inventory.proofs.Marks.{few-heads, few-spilled, own-length, spill-length}
+use Rattle.rank_sel.proofs.Ceil.{ceil-lt}
 use Rattle.inventory.proofs.Lanes.{turn-more, sum-none, sum-more}
 
 pub entry-below : (p : Parameters) (e : ℕ) → e < entriesOf p → e * 2 ^ L p < N p

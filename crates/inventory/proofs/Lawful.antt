@@ -2,7 +2,7 @@
 use mathlib.Core.Bool.{Bool, true, false, not}
 use mathlib.Core.Path.{_≡_, refl, sym, ap, _∙_}
 use Prim.Native.Nat.{ℕ, _+_, _-_, _*_, _/_, _%_, _≤_, _<_}
-use native.Mathlib.Nat.{mul-div-left, mul-mod-left, mul-le-mul-left, div-add-mod', div-lt-iff-lt-mul}
+use native.Mathlib.Nat.{mul-div-left, mul-mod-left, div-add-mod'}
 use native.Mathlib.Omega.{arith}
 use lib.Dec.{eqb}
 use borrow.Author.Tests.{eqb-true, eqb-false, eq-eqb, ne-eqb}
@@ -38,10 +38,3 @@ module _ (n e m : ℕ) where
           sym (eq-eqb n (e * (m + 1) + 1) (omega arith))
       go false h =
           sym (ne-eqb n (e * (m + 1) + 1) (λ g. eqb-false ((n - e - 1) / m) e h (ap (λ (x : ℕ). x / m) (taken-off g) ∙ mul-div-left e z)))
-
--- a quotient rounded up is at most the number
-pub ceil-le : (n p : ℕ) → 0 < p → (n + (p - 1)) / p ≤ n
-ceil-le n p h =
-    let l = mul-le-mul-left {m = 1} {n = p} n h in
-    let q = div-lt-iff-lt-mul {k = p} {x = n + (p - 1)} {y = n + 1} h .1 (omega arith) in
-    omega arith

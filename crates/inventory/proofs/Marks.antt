@@ -4,35 +4,24 @@ use mathlib.Core.Logic.{⊎-elim}
 use mathlib.Core.Bool.{Bool, true, false, cond}
 use mathlib.Core.List.{[], _∷_}
 use Prim.Native.Nat.{ℕ, zero, suc, _+_, _-_, _*_, _/_, _^_, _≤_, _<_, min}
-use native.Mathlib.Nat.{le-div-iff-mul-le, mul-le-mul-left, mul-one, suc-mul, zero-mul}
+use native.Mathlib.Nat.{zero-mul}
 use native.Mathlib.Omega.{arith}
 use lib.Dec.{leb}
 use lib.ListN.{length, take, length-append}
 use lib.Pow.{pow-pos}
 use borrow.Author.Tests.{lt-ltb, le-ltb, leb-true}
 use Rattle.rank_sel.specs.Numbers.{ceilDiv}
+use Rattle.rank_sel.proofs.Ceil.{ceil-le, ceil-lt}
 use Rattle.rank_sel.proofs.Numbers.{lt-or-le}
 use Rattle.spacing.specs.Spacing.{N, L, M, S}
 use Rattle.spacing.specs.declared.Parameters.{Parameters}
-use Rattle.inventory.specs.Index.{ranksOf, entryBy, entryFrom, mark, lane, stream, ownCells, spillCells, bound, startOf, entryOf}
+use Rattle.inventory.specs.Index.{ranksOf, entryFrom, mark, lane, stream, ownCells, spillCells, bound, startOf, entryOf}
 use Rattle.inventory.specs.Shape.{fromSpan, log2OnesPerSub32, log2Quantum, spilledBy, shapeOf}
 use Rattle.inventory.specs.declared.Entry.{Entry}
 use Rattle.inventory.specs.declared.Shape.{Shape}
 use Rattle.inventory.specs.declared.SpanType.{SpanType}
 use Rattle.inventory.specs.declared.SpanType.the-variants.{U16, U32, U64}
 use Rattle.inventory.proofs.Lanes.{turn-more, tab-length}
-
--- ---- quotients rounded up
-pub ceil-lt : (e n b : ℕ) → 0 < b → e < ceilDiv n b → e * b < n
-ceil-lt e n b h l =
-    let r = le-div-iff-mul-le {k = b} {x = suc e} {y = n + (b - 1)} h .0 l in
-    omega (arith, suc-mul e b)
-
-pub ceil-le : (n b : ℕ) → 0 < b → ceilDiv n b ≤ n
-ceil-le n b h = ⊎-elim
-    (λ (g : n < ceilDiv n b). absurd (omega (arith, ceil-lt n n b h g, mul-le-mul-left n h, mul-one n)))
-    (λ (g : ceilDiv n b ≤ n). g)
-    (lt-or-le n (ceilDiv n b))
 
 -- ---- kinds
 -- a kind has room for the spans that it serves
@@ -52,7 +41,7 @@ room-of span = go (leb span 65536) refl
     go true e = leb-true span 65536 e
     go false e = wide (leb span (2 ^ 32)) refl
 
-quantum-le : (kind : SpanType) (span s : ℕ) → log2Quantum kind span s ≤ s
+pub quantum-le : (kind : SpanType) (span s : ℕ) → log2Quantum kind span s ≤ s
 unfolding log2OnesPerSub32
 quantum-le U16 span s = omega arith
 quantum-le U32 span s = omega arith
@@ -67,6 +56,45 @@ heads-le : (kind : SpanType) (start : ℕ) → shapeOf kind start .heads ≤ 1
 heads-le U16 start = omega arith
 heads-le U32 start = omega arith
 heads-le U64 start = omega arith
+
+-- what a shape promises of an entry from start to next
+record Shaped (s : Shape) (start next : ℕ) : Type 0 where
+  pub cell : s .width * s .lanes ≡ 64
+  pub few-lanes : s .lanes ≤ 4
+  pub heads : s .heads ≤ 1
+  pub from : s .from ≤ 1
+  pub tagged : start + s .tag < 2 ^ 64
+  pub low : s .base ≤ start
+  pub fits : (m : ℕ) → start ≤ m → m < next → m - s .base < 2 ^ s .width
+
+shaped-by : (kind : SpanType) (start next : ℕ) → Room kind (next - start) → start < next → next < 2 ^ 62 → Shaped (shapeOf kind start) start next
+shaped-by U16 start next r l h = record {
+  cell = refl;
+  few-lanes = omega arith;
+  heads = heads-le U16 start;
+  from = omega arith;
+  tagged = omega arith;
+  low = omega arith;
+  fits = λ m a b. omega arith;
+}
+shaped-by U32 start next r l h = record {
+  cell = refl;
+  few-lanes = omega arith;
+  heads = heads-le U32 start;
+  from = omega arith;
+  tagged = omega arith;
+  low = omega arith;
+  fits = λ m a b. omega arith;
+}
+shaped-by U64 start next r l h = record {
+  cell = refl;
+  few-lanes = omega arith;
+  heads = heads-le U64 start;
+  from = omega arith;
+  tagged = omega arith;
+  low = omega arith;
+  fits = λ m a b. omega arith;
+}
 
 -- ---- lanes
 module _ (pos : ℕ → ℕ) (x : Entry) where
@@ -165,51 +193,8 @@ module _ (pos : ℕ → ℕ) (p : Parameters) where
     from-start r zero l = let e : r + 0 ≡ r = omega arith in rw e (omega arith)
     from-start r (suc k) l = omega (arith, h .rises r (r + suc k) (omega arith) l)
 
-    module _ (first start next ranks q : ℕ) (b : start ≡ pos first) (ql : q < 64) (small : next < 2 ^ 62) (least : start < next)
-        (inside : (k : ℕ) → k < ceilDiv ranks (2 ^ q) → first + k * 2 ^ q < N p)
-        (above : (k : ℕ) → k < ceilDiv ranks (2 ^ q) → start ≤ pos (first + k * 2 ^ q))
-        (below : (k : ℕ) → k < ceilDiv ranks (2 ^ q) → pos (first + k * 2 ^ q) < next) where
-      marked-by : (kind : SpanType) → Room kind (next - start) → Marked pos p (entryBy p first start next ranks kind q)
-      unfolding mark
-      marked-by U16 r = record {
-        close = ql;
-        within = inside;
-        low = above;
-        small = λ k l. omega (arith, below k l, above k l);
-        cell = refl;
-        few-lanes = omega arith;
-        heads = omega arith;
-        from = omega arith;
-        begins = b;
-        tagged = omega arith;
-      }
-      marked-by U32 r = record {
-        close = ql;
-        within = inside;
-        low = above;
-        small = λ k l. omega (arith, below k l, above k l);
-        cell = refl;
-        few-lanes = omega arith;
-        heads = omega arith;
-        from = omega arith;
-        begins = b;
-        tagged = omega arith;
-      }
-      marked-by U64 r = record {
-        close = ql;
-        within = inside;
-        low = λ k l. omega arith;
-        small = λ k l. omega (arith, below k l);
-        cell = refl;
-        few-lanes = omega arith;
-        heads = omega arith;
-        from = omega arith;
-        begins = b;
-        tagged = omega arith;
-      }
-
     pub entry-marked : (e : ℕ) → e * 2 ^ L p < N p → Marked pos p (entryOf pos p e)
-    unfolding entryOf entryFrom ranksOf
+    unfolding entryOf entryFrom ranksOf mark
     entry-marked e l =
         let first = e * 2 ^ L p in
         let start = startOf pos p e in
@@ -221,12 +206,22 @@ module _ (pos : ℕ → ℕ) (p : Parameters) where
         let n : next ≡ bound pos p (first + 2 ^ L p) = start-next e in
         let inside : (k : ℕ) → k < ceilDiv ranks (2 ^ q) → k * 2 ^ q < ranks = λ k g. ceil-lt k ranks (2 ^ q) (pow-pos q) g in
         let two = pow-pos (L p) in
-        marked-by first start next ranks q b (omega (arith, quantum-le kind (next - start) (S p), h .spaced, h .smallL)) (omega (arith, bound-small (first + 2 ^ L p)))
-        (omega (arith, bound-gt first (first + 2 ^ L p) (omega arith) l))
-        (λ k g. omega (arith, inside k g))
-        (λ k g. omega (arith, from-start first (k * 2 ^ q) (omega (arith, inside k g))))
-        (λ k g. omega (arith, bound-gt (first + k * 2 ^ q) (first + 2 ^ L p) (omega (arith, inside k g)) (omega (arith, inside k g))))
-        kind (room-of (next - start))
+        let above : (k : ℕ) → k < ceilDiv ranks (2 ^ q) → start ≤ pos (first + k * 2 ^ q) = λ k g. omega (arith, from-start first (k * 2 ^ q) (omega (arith, inside k g))) in
+        let below : (k : ℕ) → k < ceilDiv ranks (2 ^ q) → pos (first + k * 2 ^ q) < next =
+        λ k g. omega (arith, bound-gt (first + k * 2 ^ q) (first + 2 ^ L p) (omega (arith, inside k g)) (omega (arith, inside k g))) in
+        let s = shaped-by kind start next (room-of (next - start)) (omega (arith, bound-gt first (first + 2 ^ L p) (omega arith) l)) (omega (arith, bound-small (first + 2 ^ L p))) in
+        record {
+          close = omega (arith, quantum-le kind (next - start) (S p), h .spaced, h .smallL);
+          within = λ k g. omega (arith, inside k g);
+          low = λ k g. omega (arith, s .low, above k g);
+          small = λ k g. s .fits (pos (first + k * 2 ^ q)) (above k g) (below k g);
+          cell = s .cell;
+          few-lanes = s .few-lanes;
+          heads = s .heads;
+          from = s .from;
+          begins = b;
+          tagged = s .tagged;
+        }
 
 -- ---- an entry's cells
 pub heads-length : (h a b : ℕ) → h ≤ 1 → length (take (1 + h) (a ∷ b ∷ [])) ≡ 1 + h

@@ -1,16 +1,12 @@
 -- Laws of the ranks of an entry.
 use Prim.Native.Nat.{ℕ, _+_, _*_, _/_, _%_, _^_, _≤_, _<_}
-use native.Mathlib.Nat.{le-div-iff-mul-le, suc-mul, div-mul-le-self, div-add-mod', mod-lt}
+use native.Mathlib.Nat.{div-mul-le-self, div-add-mod', mod-lt}
 use native.Mathlib.Omega.{arith}
 use lib.Pow.{pow-pos}
-use Rattle.rank_sel.specs.Numbers.{ceilDiv}
+use Rattle.rank_sel.proofs.Ceil.{below-ceil, ceil-lt}
 use Rattle.spacing.specs.Spacing.{N, L}
 use Rattle.spacing.specs.declared.Parameters.{Parameters}
 use Rattle.inventory.specs.Index.{entriesOf, ranksOf}
-use Rattle.inventory.proofs.Marks.{ceil-lt}
-
-pub below-ceil : (k a b : ℕ) → 0 < b → k * b < a → k < ceilDiv a b
-below-ceil k a b h l = le-div-iff-mul-le h .1 (omega (arith, suc-mul k b))
 
 module _ (p : Parameters) where
   pub entry-in : (e : ℕ) → e < entriesOf p → e * 2 ^ L p < N p

@@ -13,6 +13,7 @@ use lib.Pow.{pow-pos, pow-add, pow-mono}
 use borrow.Author.Tests.{lt-ltb, le-ltb, lt-leb, leb-false}
 use Rattle.rank_sel.specs.Numbers.{ceilDiv}
 use Rattle.rank_sel.specs.Outcome.{answer}
+use Rattle.rank_sel.proofs.Ceil.{below-ceil, ceil-lt}
 use Rattle.rank_sel.proofs.Numbers.{lt-or-le}
 use Rattle.spacing.specs.Spacing.{L, M, S}
 use Rattle.spacing.specs.declared.Parameters.{Parameters}
@@ -24,10 +25,10 @@ use Rattle.inventory.specs.declared.Entry.{Entry}
 use Rattle.inventory.specs.declared.SpanType.{SpanType}
 use Rattle.inventory.specs.declared.SpanType.the-variants.{U16, U32, U64}
 use Rattle.inventory.specs.declared.Summary.{Summary}
-use Rattle.inventory.proofs.Marks.{ceil-lt, Rising, Marked, entry-marked, lane-in, lane-past, lane-lt, mark-first, bound-small}
+use Rattle.inventory.proofs.Marks.{Rising, Marked, entry-marked, lane-in, lane-past, lane-lt, mark-first, bound-small}
 use Rattle.inventory.proofs.Index.{spillStart-more, spillStart-mono}
 use Rattle.inventory.proofs.Placed.{own-first, own-second, own-cell, spill-cell, Placed}
-use Rattle.inventory.proofs.Ranks.{below-ceil, entry-in, ranks-most}
+use Rattle.inventory.proofs.Ranks.{entry-in, ranks-most}
 use Rattle.inventory.proofs.Unpack.{pack-lane}
 
 -- ---- the first cell

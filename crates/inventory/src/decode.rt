@@ -2,8 +2,9 @@
 ghost use mathlib.Core.Path.{_≡_};
 ghost use Prim.Native.Nat.{_*_, _/_, _^_, _≤_, _<_};
 ghost use lib.ListN.{length};
+ghost use Rattle.spacing.specs.Spacing.{maxLog2Words};
 ghost use Rattle.inventory.specs.Lanes.{laneOf};
-ghost use Rattle.inventory.specs.Read.{numberAt, placeAt, spanAt, startBy, tagged};
+ghost use Rattle.inventory.specs.Read.{spanAt, startBy, tagged};
 ghost use Rattle.inventory.specs.Steps.{EntryIn, HeadIn, Placed, Readable, Shaped, decoded, headOf, numberOfMark, readingOf, spaced, spacingAt};
 use crate::Shape;
 use crate::SpanType;
@@ -127,7 +128,7 @@ fn quantum_at(summary: Summary, inventory: &[u64], head: Head) -> Spaced
 
 // Where the number of mark i stands.
 fn place_of(shape: Shape, log2_words_per_subinventory: u32, i: u64) -> Spot
-    requires { ⌜ Shaped shape × («log2_words_per_subinventory» ≤ 53) ⌝ }
+    requires { ⌜ Shaped shape × («log2_words_per_subinventory» ≤ maxLog2Words) ⌝ }
     ensures { λ r. ⌜ Placed shape «log2_words_per_subinventory» i r ⌝ }
 {
     if i < shape.from {

@@ -1,6 +1,6 @@
 // The four entries that read an index: jump, hint, store and dwell.
 ghost use mathlib.Core.Path.{_≡_};
-ghost use Prim.Native.Nat.{_-_, _*_, _/_, _^_, _≤_, _<_};
+ghost use Prim.Native.Nat.{_-_, _/_, _^_, _<_};
 ghost use lib.ListN.{length};
 ghost use Rattle.rank_sel.specs.Numbers.{ceilDiv};
 ghost use Rattle.rank_sel.specs.Outcome.{answered, orRefuse};

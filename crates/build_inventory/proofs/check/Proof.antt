@@ -21,7 +21,7 @@ verdict-requires : tie.Need-verdict-requires
 verdict-requires c κs =
     let a = c .before .before .before .before .before .before .before .args in
     let m = admission (a .words .now) (a .len) (a .polarity) (a .choice) (length (a .inventory .now)) (length (a .spill .now)) (c .before .right .given .0 .0) (sym (c .before .before .before .admit .ensures) ∙ ap built (c .before .right .given .1)) in
-    (m .plans, m .room, m .spill-room)
+    record { plans = m .plans; cells = m .room; spills = m .spill-room }
 
 enum-known-refusal : tie.Need-enum-known-refusal
 enum-known-refusal c = search needs

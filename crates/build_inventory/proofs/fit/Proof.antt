@@ -1,8 +1,7 @@
 use mathlib.Core.Path.{sym, ap, _∙_}
 use Prim.Native.Nat.{ℕ}
 use borrow.Author.Needs.{needs}
-use Rattle.inventory.specs.Index.{entriesOf, spillStart}
-use Rattle.build_inventory.specs.Positions.{posIn}
+use Rattle.build_inventory.specs.Positions.{spillLenOf}
 use Rattle.rank_sel.specs.Outcome.{Outcome, answer, answered, andThen}
 use Rattle.build_inventory.proofs.Outcomes.{summaryBy, fitted-count}
 use Rattle.build_inventory.proofs.fit.Statement.{statement}
@@ -24,13 +23,13 @@ returns : tie.Need-returns
 returns c =
     let a = c .before .before .before .before .before .before .args in
     ap (λ (z : ℕ). answer (summaryBy (a .plan) (c .before .before .inventory-len .given .0 .0) z)) (c .spill-count .ensures)
-    ∙ ap (λ (o : Outcome ℕ). andThen o (λ n. answer (summaryBy (a .plan) n (spillStart (posIn (a .words .now) (a .plan)) (a .plan) (entriesOf (a .plan)))))) (ap answered (sym (c .before .before .inventory-len .given .1)) ∙ c .before .before .before .before .inventory-count .ensures)
+    ∙ ap (λ (o : Outcome ℕ). andThen o (λ n. answer (summaryBy (a .plan) n (spillLenOf (a .words .now) (a .plan))))) (ap answered (sym (c .before .before .inventory-len .given .1)) ∙ c .before .before .before .before .inventory-count .ensures)
     ∙ fitted-count (a .words .now) (a .plan) (a .most)
 
 returns-2 : tie.Need-returns-2
 returns-2 c =
     let a = c .before .before .before .before .before .args in
-    ap (λ (o : Outcome ℕ). andThen o (λ n. answer (summaryBy (a .plan) n (spillStart (posIn (a .words .now) (a .plan)) (a .plan) (entriesOf (a .plan)))))) (ap answered (sym (c .before .refusal .given .1)) ∙ c .before .before .before .inventory-count .ensures)
+    ap (λ (o : Outcome ℕ). andThen o (λ n. answer (summaryBy (a .plan) n (spillLenOf (a .words .now) (a .plan))))) (ap answered (sym (c .before .refusal .given .1)) ∙ c .before .before .before .inventory-count .ensures)
     ∙ fitted-count (a .words .now) (a .plan) (a .most)
 
 pub fit-spec : {M : Type 1} → statement M

@@ -5,7 +5,8 @@ use lib.Pow.{pow-pos, pow-mono}
 use borrow.Author.Needs.{needs}
 use Rattle.spacing.specs.Spacing.{L}
 use Rattle.inventory.specs.Index.{bound}
-use Rattle.inventory.proofs.Marks.{ceil-le, start-here, start-next, bound-gt, entry-made}
+use Rattle.inventory.proofs.Marks.{start-here, start-next, bound-gt, entry-made}
+use Rattle.rank_sel.proofs.Ceil.{ceil-le}
 use Rattle.build_inventory.specs.Positions.{posIn}
 use Rattle.build_inventory.proofs.Positions.{rising}
 use Rattle.build_inventory.proofs.entry.entry_at.Statement.{statement}

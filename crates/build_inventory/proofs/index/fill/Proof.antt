@@ -11,10 +11,10 @@ use Rattle.build_inventory.proofs.index.fill.Statement.{statement}
 use Rattle.build_inventory.proofs.index.fill.Tie as tie
 
 abbrev Inv-loop : tie.InvT-loop
-Inv-loop words plan inventory₀ spill₀ count cells e₀ at₀ spilled₀ start₀ inventory spill e at spilled start = Standing (posIn words plan) plan inventory₀ inventory spill₀ spill e at spilled start
+Inv-loop words plan inventory₀ spill₀ entries cells e₀ at₀ spilled₀ start₀ inventory spill e at spilled start = Standing (posIn words plan) plan inventory₀ inventory spill₀ spill e at spilled start
 
 abbrev μ-loop : tie.MeasureT-loop
-μ-loop words plan inventory₀ spill₀ count cells e₀ at₀ spilled₀ start₀ inventory spill e at spilled start = count - e
+μ-loop words plan inventory₀ spill₀ entries cells e₀ at₀ spilled₀ start₀ inventory spill e at spilled start = entries - e
 
 -- in a turn: e is an entry's number
 below : (c : tie.In-loop Inv-loop μ-loop) → c .before .loop .e < entriesOf (c .before .before .before .before .before .before .before .before .args .plan)
@@ -30,14 +30,14 @@ module _ (c : tie.After-entry-at Inv-loop μ-loop) where
       let a = c .before .before .before .before .before .before .before .before .before .args in
       let r = c .before .before .before .before .before .before .before .before .before .pre in
       let l = c .before .before .loop in
-      stand-cells pos (a .plan) (a .inventory .now) (a .spill .now) (r .1) (r .2) (l .inventory) (l .spill) (l .e) (l .at) (l .spilled) (l .start) (l .inv) (below (c .before)) (c .entry-at .result) (c .entry-at .ensures)
+      stand-cells pos (a .plan) (a .inventory .now) (a .spill .now) (r .cells) (r .spills) (l .inventory) (l .spill) (l .e) (l .at) (l .spilled) (l .start) (l .inv) (below (c .before)) (c .entry-at .result) (c .entry-at .ensures)
 
   spill-room : c .entry-at .result .spilled + c .before .before .loop .spilled ≤ length (c .before .before .loop .spill)
   spill-room =
       let a = c .before .before .before .before .before .before .before .before .before .args in
       let r = c .before .before .before .before .before .before .before .before .before .pre in
       let l = c .before .before .loop in
-      stand-spill pos (a .plan) (a .inventory .now) (a .spill .now) (r .1) (r .2) (l .inventory) (l .spill) (l .e) (l .at) (l .spilled) (l .start) (l .inv) (below (c .before)) (c .entry-at .result) (c .entry-at .ensures)
+      stand-spill pos (a .plan) (a .inventory .now) (a .spill .now) (r .cells) (r .spills) (l .inventory) (l .spill) (l .e) (l .at) (l .spilled) (l .start) (l .inv) (below (c .before)) (c .entry-at .result) (c .entry-at .ensures)
 
   entry-in : EntryIn (c .before .before .before .before .before .before .before .before .before .args .words .now) (c .before .before .before .before .before .before .before .before .before .args .plan) (c .entry-at .result)
   entry-in = record { number = c .before .before .loop .e; within = entry-below (c .before .before .before .before .before .before .before .before .before .args .plan) (c .before .before .loop .e) (below (c .before)); is = c .entry-at .ensures }
@@ -48,25 +48,25 @@ end c =
     let a = c .before .before .before .before .before .before .before .before .args in
     let r = c .before .before .before .before .before .before .before .before .pre in
     let l = c .before .loop in
-    stand-end (posIn (a .words .now) (a .plan)) (a .plan) (a .inventory .now) (a .spill .now) (r .1) (r .2) (l .inventory) (l .spill) (l .e) (l .at) (l .spilled) (l .start) (l .inv)
+    stand-end (posIn (a .words .now) (a .plan)) (a .plan) (a .inventory .now) (a .spill .now) (r .cells) (r .spills) (l .inventory) (l .spill) (l .e) (l .at) (l .spilled) (l .start) (l .inv)
 
 entry-count-requires : tie.Need-entry-count-requires Inv-loop μ-loop
-entry-count-requires c κs = let r = c .before .before .before .pre .0 in (omega (arith, r .admitted .short, r .few), r .smallL)
+entry-count-requires c κs = let r = c .before .before .before .pre .plans in (omega (arith, r .admitted .short, r .few), r .smallL)
 
 entry-len-requires : tie.Need-entry-len-requires Inv-loop μ-loop
-entry-len-requires c κs = c .before .before .before .before .pre .0 .smallM
+entry-len-requires c κs = c .before .before .before .before .pre .plans .smallM
 
 first-start-requires : tie.Need-first-start-requires Inv-loop μ-loop
-first-start-requires c κs = c .before .before .before .before .before .pre .0
+first-start-requires c κs = c .before .before .before .before .before .pre .plans
 
 loop-holds : tie.Need-loop-holds Inv-loop μ-loop
 loop-holds c =
     let a = c .before .before .before .before .before .before .args in
     let r = c .before .before .before .before .before .before .pre in
-    stand-none (posIn (a .words .now) (a .plan)) (a .plan) (a .inventory .now) (a .spill .now) (r .1) (r .2) (c .first-start .result) (c .first-start .ensures)
+    stand-none (posIn (a .words .now) (a .plan)) (a .plan) (a .inventory .now) (a .spill .now) (r .cells) (r .spills) (c .first-start .result) (c .first-start .ensures)
 
 entry-at-requires : tie.Need-entry-at-requires Inv-loop μ-loop
-entry-at-requires c κs = (c .before .before .before .before .before .before .before .before .pre .0, entry-below (c .before .before .before .before .before .before .before .before .args .plan) (c .before .loop .e) (below c), c .before .loop .inv .reached .begins)
+entry-at-requires c κs = (c .before .before .before .before .before .before .before .before .pre .plans, entry-below (c .before .before .before .before .before .before .before .before .args .plan) (c .before .loop .e) (below c), c .before .loop .inv .reached .begins)
 
 mul-write-entry : tie.Need-mul-write-entry Inv-loop μ-loop
 mul-write-entry c = omega (arith, room c, c .before .before .loop .inv .long)
@@ -95,7 +95,7 @@ part-write-entry-end-2 c = search needs
 write-entry-requires : tie.Need-write-entry-requires Inv-loop μ-loop
 write-entry-requires c κs =
     let l = c .before .before .before .before .loop in (
-      c .before .before .before .before .before .before .before .before .before .before .before .pre .0,
+      c .before .before .before .before .before .before .before .before .before .before .before .pre .plans,
       entry-in (c .before .before),
       part-fits (l .inventory) (l .at) (stride (c .before .before .before .before .before .before .before .before .before .before .before .args .plan)) (room (c .before .before)),
       part-fits (l .spill) (l .spilled) (c .before .before .entry-at .result .spilled) (spill-room (c .before .before)),
@@ -120,7 +120,7 @@ loop-again c =
     let l = c .before .before .before .before .before .before .before .before .before .loop in
     let x = c .before .before .before .before .before .before .before .entry-at in
     let w = c .before .before .before .before .write-entry in
-    stand-more (posIn (a .words .now) (a .plan)) (a .plan) (a .inventory .now) (a .spill .now) (r .1) (r .2) (l .inventory) (l .spill) (l .e) (l .at) (l .spilled) (l .start) (l .inv) (below (c .before .before .before .before .before .before .before .before)) (x .result) (x .ensures)
+    stand-more (posIn (a .words .now) (a .plan)) (a .plan) (a .inventory .now) (a .spill .now) (r .cells) (r .spills) (l .inventory) (l .spill) (l .e) (l .at) (l .spilled) (l .start) (l .inv) (below (c .before .before .before .before .before .before .before .before)) (x .result) (x .ensures)
     (w .last .1 .1 .1 .1 .0) (w .last .1 .1 .1 .1 .1 .0) (c .before .before .before .before .before .before .before .before .before .before .before .entry-len .result) (c .before .before .before .before .before .before .before .before .before .before .before .entry-len .ensures) (w .ensures) (w .kept .1 .1 .1 .1 .0) (w .kept .1 .1 .1 .1 .1 .0)
 
 mul-inventory : tie.Need-mul-inventory Inv-loop μ-loop
@@ -140,7 +140,7 @@ returns c =
     let a = c .before .before .before .before .before .before .before .before .args in
     let r = c .before .before .before .before .before .before .before .before .pre in
     let l = c .before .loop in
-    stand-last (posIn (a .words .now) (a .plan)) (a .plan) (a .inventory .now) (a .spill .now) (r .1) (r .2) (l .inventory) (l .spill) (l .e) (l .at) (l .spilled) (l .start) (l .inv) (omega (arith, c .before .before .before .before .entry-count .ensures, l .inv .reached .within))
+    stand-last (posIn (a .words .now) (a .plan)) (a .plan) (a .inventory .now) (a .spill .now) (r .cells) (r .spills) (l .inventory) (l .spill) (l .e) (l .at) (l .spilled) (l .start) (l .inv) (omega (arith, c .before .before .before .before .entry-count .ensures, l .inv .reached .within))
 
 pub fill-spec : {M : Type 1} → statement M
 fill-spec =

@@ -32,14 +32,14 @@ module _ (c : tie.After-entry-at Inv-loop μ-loop) where
       let a = c .before .before .before .before .before .before .before .before .before .args in
       let r = c .before .before .before .before .before .before .before .before .before .pre in
       let l = c .before .before .loop in
-      agree-cells pos (a .plan) (a .inventory .now) (a .spill .now) (r .1) (r .2) (l .e) (l .at) (l .spilled) (l .start) (l .inv) (below (c .before)) (c .entry-at .result) (c .entry-at .ensures)
+      agree-cells pos (a .plan) (a .inventory .now) (a .spill .now) (r .cells) (r .spills) (l .e) (l .at) (l .spilled) (l .start) (l .inv) (below (c .before)) (c .entry-at .result) (c .entry-at .ensures)
 
   spill-room : c .entry-at .result .spilled + c .before .before .loop .spilled ≤ length (c .before .before .before .before .before .before .before .before .before .args .spill .now)
   spill-room =
       let a = c .before .before .before .before .before .before .before .before .before .args in
       let r = c .before .before .before .before .before .before .before .before .before .pre in
       let l = c .before .before .loop in
-      agree-spill pos (a .plan) (a .inventory .now) (a .spill .now) (r .1) (r .2) (l .e) (l .at) (l .spilled) (l .start) (l .inv) (below (c .before)) (c .entry-at .result) (c .entry-at .ensures)
+      agree-spill pos (a .plan) (a .inventory .now) (a .spill .now) (r .cells) (r .spills) (l .e) (l .at) (l .spilled) (l .start) (l .inv) (below (c .before)) (c .entry-at .result) (c .entry-at .ensures)
 
   entry-in : EntryIn (c .before .before .before .before .before .before .before .before .before .args .words .now) (c .before .before .before .before .before .before .before .before .before .args .plan) (c .entry-at .result)
   entry-in = record { number = c .before .before .loop .e; within = entry-below (c .before .before .before .before .before .before .before .before .before .args .plan) (c .before .before .loop .e) (below (c .before)); is = c .entry-at .ensures }
@@ -50,25 +50,25 @@ end c =
     let a = c .before .before .before .before .before .before .before .before .args in
     let r = c .before .before .before .before .before .before .before .before .pre in
     let l = c .before .loop in
-    agree-end (posIn (a .words .now) (a .plan)) (a .plan) (a .inventory .now) (a .spill .now) (r .1) (r .2) (l .e) (l .at) (l .spilled) (l .start) (l .inv)
+    agree-end (posIn (a .words .now) (a .plan)) (a .plan) (a .inventory .now) (a .spill .now) (r .cells) (r .spills) (l .e) (l .at) (l .spilled) (l .start) (l .inv)
 
 entry-count-requires : tie.Need-entry-count-requires Inv-loop μ-loop
-entry-count-requires c κs = let r = c .before .before .before .pre .0 in (omega (arith, r .admitted .short, r .few), r .smallL)
+entry-count-requires c κs = let r = c .before .before .before .pre .plans in (omega (arith, r .admitted .short, r .few), r .smallL)
 
 entry-len-requires : tie.Need-entry-len-requires Inv-loop μ-loop
-entry-len-requires c κs = c .before .before .before .before .pre .0 .smallM
+entry-len-requires c κs = c .before .before .before .before .pre .plans .smallM
 
 first-start-requires : tie.Need-first-start-requires Inv-loop μ-loop
-first-start-requires c κs = c .before .before .before .before .before .pre .0
+first-start-requires c κs = c .before .before .before .before .before .pre .plans
 
 loop-holds : tie.Need-loop-holds Inv-loop μ-loop
 loop-holds c =
     let a = c .before .before .before .before .before .before .args in
     let r = c .before .before .before .before .before .before .pre in
-    agree-none (posIn (a .words .now) (a .plan)) (a .plan) (a .inventory .now) (a .spill .now) (r .1) (r .2) (c .first-start .result) (c .first-start .ensures)
+    agree-none (posIn (a .words .now) (a .plan)) (a .plan) (a .inventory .now) (a .spill .now) (r .cells) (r .spills) (c .first-start .result) (c .first-start .ensures)
 
 entry-at-requires : tie.Need-entry-at-requires Inv-loop μ-loop
-entry-at-requires c κs = (c .before .before .before .before .before .before .before .before .pre .0, entry-below (c .before .before .before .before .before .before .before .before .args .plan) (c .before .loop .e) (below c), c .before .loop .inv .reached .begins)
+entry-at-requires c κs = (c .before .before .before .before .before .before .before .before .pre .plans, entry-below (c .before .before .before .before .before .before .before .before .args .plan) (c .before .loop .e) (below c), c .before .loop .inv .reached .begins)
 
 mul-same-entry : tie.Need-mul-same-entry Inv-loop μ-loop
 mul-same-entry c = omega (arith, room c)
@@ -98,7 +98,7 @@ same-entry-requires : tie.Need-same-entry-requires Inv-loop μ-loop
 same-entry-requires c κs =
     let a = c .before .before .before .before .before .before .before .before .before .before .before .args in
     let l = c .before .before .before .before .loop in (
-      c .before .before .before .before .before .before .before .before .before .before .before .pre .0,
+      c .before .before .before .before .before .before .before .before .before .before .before .pre .plans,
       entry-in (c .before .before),
       part-fits (a .inventory .now) (l .at) (stride (a .plan)) (room (c .before .before)),
       part-fits (a .spill .now) (l .spilled) (c .before .before .entry-at .result .spilled) (spill-room (c .before .before)),
@@ -110,7 +110,7 @@ returns c =
     let r = c .before .before .before .before .before .before .before .before .before .before .before .before .before .pre in
     let l = c .before .before .before .before .before .before .loop in
     let x = c .before .before .before .before .entry-at in
-    agree-stop (posIn (a .words .now) (a .plan)) (a .plan) (a .inventory .now) (a .spill .now) (r .1) (r .2) (l .e) (l .at) (l .spilled) (l .start) (l .inv) (below (c .before .before .before .before .before)) (x .result) (x .ensures)
+    agree-stop (posIn (a .words .now) (a .plan)) (a .plan) (a .inventory .now) (a .spill .now) (r .cells) (r .spills) (l .e) (l .at) (l .spilled) (l .start) (l .inv) (below (c .before .before .before .before .before)) (x .result) (x .ensures)
     _ _ refl refl (sym (c .before .same-entry .ensures) ∙ not-true _ (c .if1 .taken))
 
 add-at : tie.Need-add-at Inv-loop μ-loop
@@ -131,7 +131,7 @@ loop-again c =
     let r = c .before .before .before .before .before .before .before .before .before .before .before .before .before .pre in
     let l = c .before .before .before .before .before .before .loop in
     let x = c .before .before .before .before .entry-at in
-    agree-more (posIn (a .words .now) (a .plan)) (a .plan) (a .inventory .now) (a .spill .now) (r .1) (r .2) (l .e) (l .at) (l .spilled) (l .start) (l .inv) (below (c .before .before .before .before .before)) (x .result) (x .ensures)
+    agree-more (posIn (a .words .now) (a .plan)) (a .plan) (a .inventory .now) (a .spill .now) (r .cells) (r .spills) (l .e) (l .at) (l .spilled) (l .start) (l .inv) (below (c .before .before .before .before .before)) (x .result) (x .ensures)
     _ _ refl refl (c .before .before .before .before .before .before .before .before .entry-len .result) (c .before .before .before .before .before .before .before .before .entry-len .ensures) (sym (c .before .same-entry .ensures) ∙ not-false _ (c .if1 .left))
 
 mul-last : tie.Need-mul-last Inv-loop μ-loop
@@ -145,7 +145,7 @@ returns-2 c =
     let a = c .before .before .before .before .before .before .before .before .before .args in
     let r = c .before .before .before .before .before .before .before .before .before .pre in
     let l = c .before .before .loop in
-    agree-last (posIn (a .words .now) (a .plan)) (a .plan) (a .inventory .now) (a .spill .now) (r .1) (r .2) (l .e) (l .at) (l .spilled) (l .start) (l .inv) (omega (arith, c .before .before .before .before .before .entry-count .ensures, l .inv .reached .within))
+    agree-last (posIn (a .words .now) (a .plan)) (a .plan) (a .inventory .now) (a .spill .now) (r .cells) (r .spills) (l .e) (l .at) (l .spilled) (l .start) (l .inv) (omega (arith, c .before .before .before .before .before .entry-count .ensures, l .inv .reached .within))
 
 pub same-index-spec : {M : Type 1} → statement M
 same-index-spec =

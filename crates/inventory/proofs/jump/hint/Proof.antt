@@ -2,7 +2,6 @@ use mathlib.Core.Path.{_∙_}
 use borrow.Author.Needs.{needs}
 use Rattle.inventory.proofs.Answers.{Passes, ReadAs, passes-by, refuses-by, passed, passed-then, refused-then, read-by, unread-by, decode-none, decode-as, residue-low}
 use Rattle.inventory.specs.Read.{decode, hintOf}
-use Rattle.inventory.specs.Steps.{decoded}
 use Rattle.inventory.proofs.jump.hint.Statement.{statement}
 use Rattle.inventory.proofs.jump.hint.Tie as tie
 

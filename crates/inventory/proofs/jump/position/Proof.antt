@@ -10,7 +10,6 @@ use Rattle.rank_sel.specs.Outcome.{orRefuse}
 use Rattle.rank_sel.specs.Seek.{seek}
 use Rattle.bit_record.specs.Record.{selected}
 use Rattle.inventory.specs.Read.{finish}
-use Rattle.inventory.specs.Steps.{decoded}
 use Rattle.inventory.specs.declared.SpanType.{SpanType}
 use Rattle.inventory.specs.declared.SpanType.the-variants.{U16, U32, U64}
 use Rattle.inventory.proofs.SpanType.{the-type}

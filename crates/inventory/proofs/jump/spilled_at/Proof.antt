@@ -3,7 +3,7 @@ use native.Mathlib.Omega.{arith}
 use lib.Pow.{pow-pos}
 use borrow.Author.Needs.{needs}
 use Rattle.inventory.specs.Index.{ranksOf}
-use Rattle.inventory.proofs.Lawful.{ceil-le}
+use Rattle.rank_sel.proofs.Ceil.{ceil-le}
 use Rattle.inventory.proofs.jump.spilled_at.Statement.{statement}
 use Rattle.inventory.proofs.jump.spilled_at.Tie as tie
 

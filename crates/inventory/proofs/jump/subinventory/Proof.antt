@@ -5,7 +5,6 @@ use lib.ListN.{getD, length}
 use borrow.Author.Needs.{needs, scaled-fits}
 use Rattle.inventory.proofs.Answers.{Passes, passes-by, refuses-by, passed, read-by, unread-by}
 use Rattle.inventory.proofs.Parts.{Stored, part-untested, part-unread, part-own, small-m, own-start, own-end, part-over, over-start, over-in, over-total, over-end, countable, part-cut}
-use Rattle.inventory.specs.Steps.{decoded}
 use Rattle.inventory.proofs.jump.subinventory.Statement.{statement}
 use Rattle.inventory.proofs.jump.subinventory.Tie as tie
 
