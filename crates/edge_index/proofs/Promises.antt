@@ -21,7 +21,8 @@ use Rattle.build_inventory.specs.Build.{checkOf, sameSummary}
 use Rattle.build_inventory.specs.Compare.{sameIndex, sameList}
 use Rattle.build_inventory.specs.Positions.{posIn}
 use Rattle.build_inventory.proofs.Compare.{same-is, same-yes}
-use Rattle.build_inventory.proofs.Outcomes.{Admission, admission, then-answer}
+use Rattle.build_inventory.proofs.Outcomes.{Admission, admission}
+use Rattle.rank_sel.proofs.Outcome.{answer-is, then-answer}
 use Rattle.build_inventory.proofs.Summaries.{summary-is, summary-same}
 use Rattle.edge_index.specs.Promises.{buildAnswers, Promises}
 use Rattle.edge_index.specs.Sound.{bitOf, Sound}
@@ -87,9 +88,6 @@ module _ (ws : List ℕ) (len : ℕ) (pol : Polarity) (choice : Choice) where
             (ap (λ (n : ℕ). take n sp) (sym (spill-long u (length inv) (length sp) m) ∙ length-spill (posIn ws (u .plan)) (u .plan)) ∙ same-is _ _ (z .1));
       }
     where
-      answer-is : {a b : Bool} → answer a ≡ answer b → a ≡ b
-      answer-is e = cc
-
       and-back : (a b : Bool) → a && b ≡ true → (a ≡ true) × (b ≡ true)
       and-back true true e = (refl, refl)
       and-back true false e = (refl, e)

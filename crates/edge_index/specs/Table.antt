@@ -1,18 +1,26 @@
 -- Records to try: what the definitions give, beside what document 01 and the source say. Its starred lines are marked *.
 use mathlib.Core.Bool.{true, false}
-use mathlib.Core.List.{List, [], _∷_}
+use mathlib.Core.List.{List, [], _∷_, _++_, map}
 use mathlib.Core.Path.{_≡_}
 use Prim.Native.Nat.{ℕ, _+_, _-_, _^_}
 use lib.Ieee.{nan, inf, fin}
 use lib.IntN.{pos, negsuc}
-use Rattle.rank_sel.specs.Outcome.{answer, refused}
+use lib.ListN.{replicate}
+use Rattle.rank_sel.specs.Outcome.{Outcome, answer, refused}
 use Rattle.select_in_word.specs.Select.{selectInWord}
 use Rattle.bit_record.specs.Record.{countOf}
 use Rattle.bit_record.specs.declared.Polarity.{Polarity}
 use Rattle.bit_record.specs.declared.Polarity.the-variants.{Ones, Zeros}
 use Rattle.spacing.specs.Spacing.{asF64, cappedLog2Words, overheadSpan, planOf, spanLog2}
+use Rattle.spacing.specs.declared.Choice.{Choice}
 use Rattle.spacing.specs.declared.Choice.the-variants.{Default, Span, Power, Overhead}
 use Rattle.spacing.specs.declared.Parameters.{Parameters}
+use Rattle.inventory.specs.Read.{selectOf, dwellOf}
+use Rattle.inventory.specs.Shape.{fromSpan, log2OnesPerSub32}
+use Rattle.inventory.specs.declared.SpanType.the-variants.{U16, U32, U64}
+use Rattle.inventory.specs.declared.Summary.{Summary}
+use Rattle.build_inventory.specs.Build.{checkOf}
+use Rattle.edge_index.specs.Promises.{buildAnswers, inventoryHolds}
 
 -- a value as defined, and as stated
 pub data Line : Type 1 where
@@ -37,6 +45,25 @@ parameters pol len num l m s = record {
 -- record A: word 0x252, len 10
 abbrev pub A : List ℕ
 A = 0x252 ∷ []
+
+-- a summary: a plan and the two cell counts
+abbrev pub summary : Parameters → ℕ → ℕ → Summary
+summary p cells spilled = record { plan = p; «inventory_len» = cells; «spill_len» = spilled }
+
+-- A's index, ones and zeros, power L 1 maximum 0
+abbrev pub onesA : Summary
+onesA = summary (parameters Ones 10 4 1 0 0) 5 0
+
+abbrev pub cellsA : List ℕ
+cellsA = 1 ∷ 0x30000 ∷ 6 ∷ 0x30000 ∷ 10 ∷ []
+
+abbrev pub zerosA : Summary
+zerosA = summary (parameters Zeros 10 6 1 0 0) 7 0
+
+-- what build answers and leaves in so many lent inventory cells, all ones before, and no spill
+abbrev pub builds : List ℕ → ℕ → Polarity → Choice → ℕ → Outcome Summary × List ℕ
+builds ws len pol choice cells =
+    (buildAnswers ws len pol choice (replicate cells (2 ^ 64 - 1)) [], inventoryHolds ws len pol choice (replicate cells (2 ^ 64 - 1)) [])
 
 abbrev pub table : List Line
 table =
@@ -80,4 +107,31 @@ table =
     ∷ line (planOf A 10 Ones (Overhead (fin false 0 (pos 0)) 3)) (refused 5)
     ∷ line (planOf A 10 Ones (Overhead (fin true 0 (pos 0)) 3)) (refused 5)
     ∷ line (planOf A 10 Ones (Overhead (inf false) 3)) (refused 5)
+    -- * A, power L 1 maximum 0; * zeros, same choice; * ones, default
+    ∷ line (builds A 10 Ones (Power 1 0) 5) (answer onesA, cellsA)
+    ∷ line (builds A 10 Zeros (Power 1 0) 7) (answer zerosA, 0 ∷ 0x20000 ∷ 3 ∷ 0x20000 ∷ 7 ∷ 0x10000 ∷ 10 ∷ [])
+    ∷ line (builds A 10 Ones Default 3) (answer (summary (parameters Ones 10 4 10 0 8) 3 0), 1 ∷ 0 ∷ 10 ∷ [])
+    -- * len 0: inventory 1; * len 5 without ones: inventory 5
+    ∷ line (builds [] 0 Ones Default 1) (answer (summary (parameters Ones 0 0 0 0 0) 1 0), 1 ∷ [])
+    ∷ line (builds (0 ∷ []) 5 Ones Default 1) (answer (summary (parameters Ones 5 0 0 0 0) 1 0), 5 ∷ [])
+    -- cells past the counts stay; 6 by one cell
+    ∷ line (builds A 10 Ones (Power 1 0) 6) (answer onesA, cellsA ++ ((2 ^ 64 - 1) ∷ []))
+    ∷ line (builds A 10 Ones (Power 1 0) 4) (refused 6, replicate 4 (2 ^ 64 - 1))
+    -- * spans 65,536, 65,537, 2^32, 2^32 + 1
+    ∷ line (fromSpan 65536 ∷ fromSpan 65537 ∷ fromSpan (2 ^ 32) ∷ fromSpan (2 ^ 32 + 1) ∷ []) (U16 ∷ U32 ∷ U32 ∷ U64 ∷ [])
+    -- * U32 spacing for S 8: span 65,537 gives 6, 131,072 gives 5; S 1 gives 0
+    ∷ line (log2OnesPerSub32 65537 8 ∷ log2OnesPerSub32 131072 8 ∷ log2OnesPerSub32 65537 1 ∷ []) (6 ∷ 5 ∷ 0 ∷ [])
+    -- A's ones by jump, and its dwell
+    ∷ line (map (selectOf A onesA cellsA []) (0 ∷ 1 ∷ 2 ∷ 3 ∷ [])) (answer 1 ∷ answer 4 ∷ answer 6 ∷ answer 9 ∷ [])
+    ∷ line (dwellOf A onesA cellsA [] 0 3) (answer 8)
+    -- check
+    ∷ line (checkOf A 10 Ones (Power 1 0) onesA cellsA []) (answer true)
+    ∷ line (checkOf A 10 Ones (Power 1 0) zerosA cellsA []) (answer false)
+    ∷ line (checkOf A 10 Ones (Power 1 0) onesA (1 ∷ 0x30000 ∷ 6 ∷ 0x30000 ∷ 11 ∷ []) []) (answer false)
+    -- the examples of refusals 6, 8, 9, 10 and 11
+    ∷ line (selectOf A onesA (1 ∷ 0x30000 ∷ 6 ∷ 0x30000 ∷ []) [] 0) (refused 6)
+    ∷ line (selectOf A onesA cellsA [] 4) (refused 8)
+    ∷ line (selectOf A (summary (parameters Ones 10 11 1 0 0) 13 0) cellsA [] 0) (refused 9)
+    ∷ line (selectOf A onesA (0x8000000000000000 ∷ 0x30000 ∷ 6 ∷ 0x30000 ∷ 10 ∷ []) [] 0) (refused 10)
+    ∷ line (dwellOf A onesA cellsA [] 2 1) (refused 11)
     ∷ []
