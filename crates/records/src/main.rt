@@ -1,15 +1,29 @@
 // Runs document 01's "Records to try" and its examples of refusals through the library; what it writes is held to stdout.
+ghost use mathlib.Core.Path.{_≡_};
+ghost use lib.ListN.{length};
 use edge_index::Answer;
+use edge_index::Built;
+use edge_index::Checked;
 use edge_index::Choice;
+use edge_index::Hinted;
 use edge_index::InWord;
 use edge_index::Parameters;
 use edge_index::Planned;
 use edge_index::Polarity;
 use edge_index::Refusal;
+use edge_index::Sized;
+use edge_index::Summary;
+use edge_index::build;
+use edge_index::check;
 use edge_index::count;
+use edge_index::dwell;
+use edge_index::hint;
 use edge_index::plan;
 use edge_index::refusal_number;
+use edge_index::select;
 use edge_index::select_in_word;
+use edge_index::size;
+use edge_index::subinventory;
 use libc::STDOUT_FILENO;
 
 fn say(text: &[u8]) {
@@ -18,7 +32,7 @@ fn say(text: &[u8]) {
 
 fn end_with(number: u64) {
     io::print_decimal(STDOUT_FILENO, number);
-    say(b"\n");
+    end_line();
 }
 
 fn end_refused(refusal: Refusal) {
@@ -171,9 +185,585 @@ fn overheads() {
     show_choice(b"overhead NaN, maximum 54", Choice::Overhead(0.0 / 0.0, 54));
 }
 
+fn say_number(text: &[u8], number: u64) {
+    say(text);
+    io::print_decimal(STDOUT_FILENO, number);
+}
+
+fn say_cell(cell: u64) {
+    say(b" 0x");
+    io::print_hex(STDOUT_FILENO, cell, 1);
+}
+
+fn end_line() {
+    say(b"\n");
+}
+
+fn end_cells(cells: &[u64]) {
+    let mut i: usize = 0;
+    while i < cells.len() {
+        say_cell(cells[i]);
+        i += 1;
+    }
+    end_line();
+}
+
+fn show_sized(sized: Sized) {
+    match sized {
+        Sized::Cells(inventory_len, spill_len) => {
+            say_number(b"cells ", inventory_len);
+            say_number(b", spilled ", spill_len);
+            end_line();
+        }
+        Sized::Refused(refusal) => end_refused(refusal),
+    }
+}
+
+fn show_built(built: Built) {
+    match built {
+        Built::Summary(summary) => {
+            say_number(b"cells ", summary.inventory_len);
+            say_number(b", spilled ", summary.spill_len);
+            say(b", ");
+            end_planned(summary.plan);
+        }
+        Built::Refused(refusal) => end_refused(refusal),
+    }
+}
+
+fn show_checked(checked: Checked) {
+    match checked {
+        Checked::Yes => say(b"yes\n"),
+        Checked::No => say(b"no\n"),
+        Checked::Refused(refusal) => end_refused(refusal),
+    }
+}
+
+fn show_hint(hinted: Hinted) {
+    match hinted {
+        Hinted::Mark(mark, rank) => {
+            say_number(b"mark ", mark);
+            say_number(b", rank ", rank);
+            end_line();
+        }
+        Hinted::Refused(refusal) => end_refused(refusal),
+    }
+}
+
+// The summary of a plan that the caller writes out.
+fn summary_of(
+    polarity: Polarity,
+    len: u64,
+    num: u64,
+    l: u32,
+    s: u32,
+    inventory_len: u64,
+    spill_len: u64,
+) -> Summary {
+    let plan = Parameters {
+        polarity,
+        len,
+        num,
+        log2_ones_per_inventory: l,
+        log2_words_per_subinventory: 0,
+        log2_ones_per_sub16: s,
+    };
+    Summary {
+        plan,
+        inventory_len,
+        spill_len,
+    }
+}
+
+// Size, build and the cells left, for cells that hold ones before.
+fn show_index(
+    name: &[u8],
+    words: &[u64],
+    len: u64,
+    polarity: Polarity,
+    choice: Choice,
+    inventory: &mut [u64],
+    spill: &mut [u64],
+) {
+    say(b"size ");
+    say(name);
+    say(b": ");
+    show_sized(size(words, len, polarity, choice));
+    say(b"build ");
+    say(name);
+    say(b": ");
+    show_built(build(words, len, polarity, choice, inventory, spill));
+    say(b"  inventory");
+    end_cells(inventory);
+    say(b"  spill");
+    end_cells(spill);
+}
+
+// Jump, hint and store at one rank.
+fn show_rank<'a>(
+    words: &[u64],
+    summary: Summary,
+    inventory: &'a [u64],
+    spill: &'a [u64],
+    rank: u64,
+) {
+    say_number(b"rank ", rank);
+    say(b": ");
+    show(select(words, summary, inventory, spill, rank));
+    say(b"  hint ");
+    show_hint(hint(words, summary, inventory, spill, rank));
+    say(b"  store");
+    end_cells(subinventory(words, summary, inventory, spill, rank));
+}
+
+fn show_select(
+    name: &[u8],
+    words: &[u64],
+    summary: Summary,
+    inventory: &[u64],
+    spill: &[u64],
+    rank: u64,
+) {
+    say(b"jump ");
+    say(name);
+    say(b": ");
+    show(select(words, summary, inventory, spill, rank));
+}
+
+fn indexes_of_a() {
+    let a = [0x252u64];
+    let mut none = [u64::MAX; 1];
+    let mut cells = [u64::MAX; 6];
+    show_index(
+        b"A, power 1, 0",
+        &a,
+        10,
+        Polarity::Ones,
+        Choice::Power(1, 0),
+        &mut cells,
+        &mut none,
+    );
+    let mut zeros = [u64::MAX; 7];
+    show_index(
+        b"A zeros, power 1, 0",
+        &a,
+        10,
+        Polarity::Zeros,
+        Choice::Power(1, 0),
+        &mut zeros,
+        &mut none,
+    );
+    let mut few = [u64::MAX; 3];
+    show_index(
+        b"A, default",
+        &a,
+        10,
+        Polarity::Ones,
+        Choice::Default,
+        &mut few,
+        &mut none,
+    );
+    let mut short = [u64::MAX; 4];
+    show_index(
+        b"A in 4 cells",
+        &a,
+        10,
+        Polarity::Ones,
+        Choice::Power(1, 0),
+        &mut short,
+        &mut none,
+    );
+    let blank = [0u64];
+    let mut one = [u64::MAX; 1];
+    show_index(
+        b"len 5 without ones",
+        &blank,
+        5,
+        Polarity::Ones,
+        Choice::Default,
+        &mut one,
+        &mut none,
+    );
+    show_index(
+        b"len 0",
+        &blank,
+        0,
+        Polarity::Ones,
+        Choice::Default,
+        &mut one,
+        &mut none,
+    );
+}
+
+fn readers_of_a() {
+    let a = [0x252u64];
+    let none = [0u64; 0];
+    let ones = summary_of(Polarity::Ones, 10, 4, 1, 0, 5, 0);
+    let cells = [1u64, 0x30000, 6, 0x30000, 10];
+    show_rank(&a, ones, &cells, &none, 0);
+    show_rank(&a, ones, &cells, &none, 1);
+    show_rank(&a, ones, &cells, &none, 2);
+    show_rank(&a, ones, &cells, &none, 3);
+    show_rank(&a, ones, &cells, &none, 4);
+    let zeros = summary_of(Polarity::Zeros, 10, 6, 1, 0, 7, 0);
+    let zero_cells = [0u64, 0x20000, 3, 0x20000, 7, 0x10000, 10];
+    show_rank(&a, zeros, &zero_cells, &none, 0);
+    show_rank(&a, zeros, &zero_cells, &none, 3);
+    show_rank(&a, zeros, &zero_cells, &none, 5);
+    say(b"dwell A 0, 3: ");
+    show(dwell(&a, ones, &cells, &none, 0, 3));
+    say(b"dwell A 2, 1: ");
+    show(dwell(&a, ones, &cells, &none, 2, 1));
+    say(b"dwell A 5, 1: ");
+    show(dwell(&a, ones, &cells, &none, 5, 1));
+    say(b"dwell A 1, 1: ");
+    show(dwell(&a, ones, &cells, &none, 1, 1));
+}
+
+// C: ones at 0 and 65,539 of 65,540.
+fn record_c() -> [u64; 1025]
+    ensures { λ r. ⌜ 1025 ≡ length r ⌝ }
+{
+    let mut words = [0u64; 1025];
+    words[0] = 1;
+    words[1024] = 8;
+    words
+}
+
+fn summary_c() -> Summary {
+    summary_of(Polarity::Ones, 65540, 2, 1, 0, 3, 1)
+}
+
+fn index_of_c() {
+    let c = record_c();
+    let mut cells = [u64::MAX; 4];
+    let mut spill = [u64::MAX; 2];
+    show_index(
+        b"C, power 1, 0",
+        &c,
+        65540,
+        Polarity::Ones,
+        Choice::Power(1, 0),
+        &mut cells,
+        &mut spill,
+    );
+    let mut no_spill = [0u64; 0];
+    show_index(
+        b"C without spill",
+        &c,
+        65540,
+        Polarity::Ones,
+        Choice::Power(1, 0),
+        &mut cells,
+        &mut no_spill,
+    );
+}
+
+// D: ones at 0 and 65,535 of 65,536.
+fn index_of_d() {
+    let mut d = [0u64; 1024];
+    d[0] = 1;
+    d[1023] = 0x8000_0000_0000_0000;
+    let mut cells = [u64::MAX; 3];
+    let mut spill = [u64::MAX; 1];
+    show_index(
+        b"D, power 1, 0",
+        &d,
+        65536,
+        Polarity::Ones,
+        Choice::Power(1, 0),
+        &mut cells,
+        &mut spill,
+    );
+    let written = [0u64, 0xFFFF0000, 65536];
+    let none = [0u64; 0];
+    let summary = summary_of(Polarity::Ones, 65536, 2, 1, 0, 3, 0);
+    show_rank(&d, summary, &written, &none, 0);
+    show_rank(&d, summary, &written, &none, 1);
+}
+
+fn readers_of_c() {
+    let c = record_c();
+    let cells = [0x8000_0000_0000_0000u64, 0, 65540];
+    let spill = [0x0001_0003_0000_0000u64];
+    show_rank(&c, summary_c(), &cells, &spill, 0);
+    show_rank(&c, summary_c(), &cells, &spill, 1);
+    let none = [0u64; 0];
+    show_select(b"C without its spill", &c, summary_c(), &cells, &none, 1);
+}
+
+// Rank 1 of C, by other inventory cells.
+fn select_in_c(name: &[u8], cells: &[u64]) {
+    let c = record_c();
+    let spill = [0x0001_0003_0000_0000u64];
+    show_select(name, &c, summary_c(), cells, &spill, 1);
+}
+
+fn damage_to_c() {
+    let tagged_end = [0x8000_0000_0000_0000u64, 0, 0xC000_0000_0001_0004];
+    select_in_c(
+        b"C, of the next first cell the low 62 bits count",
+        &tagged_end,
+    );
+    let far_end = [0x8000_0000_0000_0000u64, 0, 0x2_0000_0000];
+    select_in_c(b"C, U32 with a span over 2^32", &far_end);
+    let near_end = [0x8000_0000_0000_0000u64, 0, 65536];
+    select_in_c(b"C, U32 with a span of 65,536", &near_end);
+    let plain = [0u64, 0, 65540];
+    select_in_c(b"C, U16 on a large span", &plain);
+    let past = [0x8000_0000_0000_0000u64, u64::MAX, 65540];
+    select_in_c(b"C, second cell 2^64 - 1", &past);
+}
+
+fn damage_to_a() {
+    let a = [0x252u64];
+    let none = [0u64; 0];
+    let ones = summary_of(Polarity::Ones, 10, 4, 1, 0, 5, 0);
+    let whole = [0xC000_0000_0000_0002u64, u64::MAX, 6, 0x30000, 10];
+    show_select(
+        b"A, U64 position not selected, second cell not needed",
+        &a,
+        ones,
+        &whole,
+        &none,
+        0,
+    );
+    show_select(
+        b"A, U64 on a small span, its spill missing",
+        &a,
+        ones,
+        &whole,
+        &none,
+        1,
+    );
+    let outside = [0xC000_0000_0000_000Au64, 0, 6, 0x30000, 10];
+    show_select(b"A, U64 position at len", &a, ones, &outside, &none, 0);
+    let high = [0x4000_0000_0000_0001u64, 0x30000, 6, 0x30000, 10];
+    show_select(
+        b"A, tag 01: a U16 start past 2^62",
+        &a,
+        ones,
+        &high,
+        &none,
+        0,
+    );
+    let narrow = [0x8000_0000_0000_0000u64, 0x30000, 6, 0x30000, 10];
+    show_select(
+        b"A, first cell 0x8000000000000000",
+        &a,
+        ones,
+        &narrow,
+        &none,
+        0,
+    );
+    let few = summary_of(Polarity::Ones, 10, 4, 10, 8, 3, 0);
+    let late = [9u64, 0, 10];
+    show_select(
+        b"A, default, start at the last edge, rank 1",
+        &a,
+        few,
+        &late,
+        &none,
+        1,
+    );
+    say(b"  hint ");
+    show_hint(hint(&a, few, &late, &none, 1));
+    let back = [9u64, 0x30000, 1, 0x30000, 10];
+    say(b"dwell A, entries swapped, 0, 2: ");
+    show(dwell(&a, ones, &back, &none, 0, 2));
+}
+
+fn summaries_of_a() {
+    let a = [0x252u64];
+    let none = [0u64; 0];
+    let cells = [1u64, 0x30000, 6, 0x30000, 10];
+    show_select(
+        b"A, N 11",
+        &a,
+        summary_of(Polarity::Ones, 10, 11, 1, 0, 13, 0),
+        &cells,
+        &none,
+        0,
+    );
+    show_select(
+        b"A, L 64",
+        &a,
+        summary_of(Polarity::Ones, 10, 4, 64, 62, 3, 0),
+        &cells,
+        &none,
+        0,
+    );
+    show_select(
+        b"A, S 1",
+        &a,
+        summary_of(Polarity::Ones, 10, 4, 1, 1, 5, 0),
+        &cells,
+        &none,
+        0,
+    );
+    show_select(
+        b"A, 6 cells",
+        &a,
+        summary_of(Polarity::Ones, 10, 4, 1, 0, 6, 0),
+        &cells,
+        &none,
+        0,
+    );
+    show_select(
+        b"A, len 65",
+        &a,
+        summary_of(Polarity::Ones, 65, 4, 1, 0, 5, 0),
+        &cells,
+        &none,
+        0,
+    );
+    show_select(
+        b"A, len 2^62",
+        &a,
+        summary_of(Polarity::Ones, 0x4000_0000_0000_0000, 4, 1, 0, 5, 0),
+        &cells,
+        &none,
+        0,
+    );
+    show_select(
+        b"A, spill count 1",
+        &a,
+        summary_of(Polarity::Ones, 10, 4, 1, 0, 5, 1),
+        &cells,
+        &none,
+        0,
+    );
+    let short = [1u64, 0x30000, 6, 0x30000];
+    show_select(
+        b"A, 4 cells lent",
+        &a,
+        summary_of(Polarity::Ones, 10, 4, 1, 0, 5, 0),
+        &short,
+        &none,
+        0,
+    );
+}
+
+// The summary with one field changed, by its number in document 01's order.
+fn changed(summary: Summary, field: u32) -> Summary {
+    let mut plan = summary.plan;
+    let mut inventory_len = summary.inventory_len;
+    let mut spill_len = summary.spill_len;
+    match field {
+        1 => plan.len = std::num::wrapping_add_u64(plan.len, 1),
+        2 => plan.num = std::num::wrapping_add_u64(plan.num, 1),
+        3 => plan.log2_ones_per_inventory = 2,
+        4 => plan.log2_words_per_subinventory = 1,
+        5 => plan.log2_ones_per_sub16 = 1,
+        6 => inventory_len = std::num::wrapping_add_u64(inventory_len, 1),
+        _ => spill_len = std::num::wrapping_add_u64(spill_len, 1),
+    }
+    Summary {
+        plan,
+        inventory_len,
+        spill_len,
+    }
+}
+
+// A's ones, power 1, 0, and C's, against a summary and cells handed in.
+fn check_a(summary: Summary, cells: &[u64]) {
+    let a = [0x252u64];
+    let none = [0u64; 0];
+    say(b"check A: ");
+    show_checked(check(
+        &a,
+        10,
+        Polarity::Ones,
+        Choice::Power(1, 0),
+        summary,
+        cells,
+        &none,
+    ));
+}
+
+fn check_c(summary: Summary, cells: &[u64], spill: &[u64]) {
+    let c = record_c();
+    say(b"check C: ");
+    show_checked(check(
+        &c,
+        65540,
+        Polarity::Ones,
+        Choice::Power(1, 0),
+        summary,
+        cells,
+        spill,
+    ));
+}
+
+fn summary_checks_of_a() {
+    let cells = [1u64, 0x30000, 6, 0x30000, 10, 77];
+    let right = summary_of(Polarity::Ones, 10, 4, 1, 0, 5, 0);
+    check_a(right, &cells);
+    check_a(summary_of(Polarity::Zeros, 10, 4, 1, 0, 5, 0), &cells);
+    check_a(changed(right, 1), &cells);
+    check_a(changed(right, 2), &cells);
+    check_a(changed(right, 3), &cells);
+    check_a(changed(right, 4), &cells);
+    check_a(changed(right, 5), &cells);
+    check_a(changed(right, 6), &cells);
+    check_a(changed(right, 7), &cells);
+}
+
+fn cell_checks_of_a() {
+    let right = summary_of(Polarity::Ones, 10, 4, 1, 0, 5, 0);
+    check_a(right, &[0u64, 0x30000, 6, 0x30000, 10]);
+    check_a(right, &[1u64, 0x30001, 6, 0x30000, 10]);
+    check_a(right, &[1u64, 0x30000, 7, 0x30000, 10]);
+    check_a(right, &[1u64, 0x30000, 6, 0x1_0000_0003_0000, 10]);
+    check_a(right, &[1u64, 0x30000, 6, 0x30000, 9]);
+    check_a(right, &[1u64, 0x30000, 6, 0x30000]);
+}
+
+fn check_c_summary(summary: Summary) {
+    let cells = [0x8000_0000_0000_0000u64, 0, 65540];
+    let spill = [0x0001_0003_0000_0000u64];
+    check_c(summary, &cells, &spill);
+}
+
+fn check_c_cells(first: u64, second: u64, last: u64, spilled: u64) {
+    let cells = [first, second, last];
+    let spill = [spilled];
+    check_c(summary_c(), &cells, &spill);
+}
+
+fn checks_of_c() {
+    check_c_summary(summary_c());
+    check_c_summary(summary_of(Polarity::Zeros, 65540, 2, 1, 0, 3, 1));
+    check_c_summary(changed(summary_c(), 1));
+    check_c_summary(changed(summary_c(), 2));
+    check_c_summary(changed(summary_c(), 3));
+    check_c_summary(changed(summary_c(), 4));
+    check_c_summary(changed(summary_c(), 5));
+    check_c_summary(changed(summary_c(), 6));
+    check_c_summary(changed(summary_c(), 7));
+    check_c_cells(0, 0, 65540, 0x0001_0003_0000_0000);
+    check_c_cells(0x8000_0000_0000_0000, 1, 65540, 0x0001_0003_0000_0000);
+    check_c_cells(0x8000_0000_0000_0000, 0, 65539, 0x0001_0003_0000_0000);
+    check_c_cells(0x8000_0000_0000_0000, 0, 65540, 0x0001_0003_0000_0001);
+    let cells = [0x8000_0000_0000_0000u64, 0, 65540];
+    let none = [0u64; 0];
+    check_c(summary_c(), &cells, &none);
+}
+
 fn main() {
     counts();
     in_words();
     plans();
     overheads();
+    indexes_of_a();
+    readers_of_a();
+    index_of_c();
+    index_of_d();
+    readers_of_c();
+    damage_to_c();
+    damage_to_a();
+    summaries_of_a();
+    summary_checks_of_a();
+    cell_checks_of_a();
+    checks_of_c();
 }
