@@ -86,14 +86,8 @@ module _ {ws : List ℕ} {t : Summary} {inv sp : List ℕ} {r : ℕ} {d : Decode
   pub over-start : d .spilled ≡ true → getD inv (d .head .cell + 1) 0 < t .«spill_len»
   over-start f = rw second-cell (over-low (s .read) f)
 
-  pub over-in : d .spilled ≡ true → getD inv (d .head .cell + 1) 0 < length sp
-  over-in f = omega (arith, over-start f, readable .over)
-
-  pub over-total : d .spilled ≡ true → (n k : ℕ) → k ≡ min n (t .«spill_len» - getD inv (d .head .cell + 1) 0) → getD inv (d .head .cell + 1) 0 + k ≤ t .«spill_len»
-  over-total f n k ek = omega (arith, over-start f)
-
   pub over-end : d .spilled ≡ true → (n k : ℕ) → k ≡ min n (t .«spill_len» - getD inv (d .head .cell + 1) 0) → getD inv (d .head .cell + 1) 0 + k ≤ length sp
-  over-end f n k ek = omega (arith, over-total f n k ek, readable .over)
+  over-end f n k ek = omega (arith, over-start f, readable .over)
 
   pub countable : Countable (t .plan) d
   countable =
@@ -106,8 +100,8 @@ module _ {ws : List ℕ} {t : Summary} {inv sp : List ℕ} {r : ℕ} {d : Decode
         begun = simp (s .read .head) (omega (arith, a .below, div-add-mod' r (2 ^ L (t .plan))));
       }
 
--- a part from a to a + m
-pub part-cut : (l : List ℕ) (a m n : ℕ) → m ≡ n → take (a + m - a) (drop a l) ≡ take n (drop a l)
-part-cut l a m n e =
-    let f : a + m - a ≡ n = omega arith in
+-- a part from a to a + n
+pub part-cut : (l : List ℕ) (a n : ℕ) → take (a + n - a) (drop a l) ≡ take n (drop a l)
+part-cut l a n =
+    let f : a + n - a ≡ n = omega arith in
     ap (λ (k : ℕ). take k (drop a l)) f

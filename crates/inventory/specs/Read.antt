@@ -2,7 +2,7 @@
 use mathlib.Core.Bool.{Bool, false, cond, not, _||_}
 use mathlib.Core.List.{List, []}
 use mathlib.Core.Path.{_≡_}
-use Prim.Native.Nat.{ℕ, zero, suc, _+_, _-_, _*_, _/_, _%_, _^_, min}
+use Prim.Native.Nat.{ℕ, zero, suc, _+_, _-_, _*_, _/_, _%_, _^_, _≤_, min}
 use lib.Dec.{eqb, leb, ltb}
 use lib.ListN.{length, getD, take, drop}
 use denote.Ref.{RefT, ptr}
@@ -18,6 +18,8 @@ use Rattle.inventory.specs.declared.Shape.{Shape}
 use Rattle.inventory.specs.declared.SpanType.{SpanType}
 use Rattle.inventory.specs.declared.SpanType.the-variants.{U16, U32, U64}
 use Rattle.inventory.specs.declared.Summary.{Summary}
+use Rattle.inventory.specs.declared.jump.CellPart.{CellPart}
+use Rattle.inventory.specs.declared.jump.CellPart.the-variants as CellPart·v
 use Rattle.inventory.specs.declared.jump.Hinted.{Hinted}
 use Rattle.inventory.specs.declared.jump.Hinted.the-variants as Hinted·v
 
@@ -199,6 +201,17 @@ unlessRefused (refused n) p = empty
 unfoldable pub subinventoryOf : List ℕ → Summary → List ℕ → List ℕ → ℕ → Part
 subinventoryOf ws t inv sp r =
     unlessRefused (hintOf ws t inv sp r) (partBy t inv (entryOfRank t r) (placeAt t inv (entryOfRank t r) (markNumber t inv r)))
+
+abbrev pub partOf : CellPart → Part
+partOf (CellPart·v.Inventory c n) = ofInventory c n
+partOf (CellPart·v.Spill c n) = ofSpill c n
+partOf CellPart·v.Empty = empty
+
+-- the part's cells are lent
+abbrev pub PartIn : List ℕ → List ℕ → Part → Type 0
+PartIn inv sp (ofInventory c n) = c + n ≤ length inv
+PartIn inv sp (ofSpill c n) = c + n ≤ length sp
+PartIn inv sp empty = Unit {0}
 
 -- the part's cells
 abbrev pub cellsOf : List ℕ → List ℕ → Part → List ℕ

@@ -1,6 +1,6 @@
 // The four entries that read an index: jump, hint, store and dwell.
 ghost use mathlib.Core.Path.{_≡_};
-ghost use Prim.Native.Nat.{_-_, _/_, _^_, _<_};
+ghost use Prim.Native.Nat.{_-_, _*_, _/_, _^_, _≤_, _<_};
 ghost use lib.ListN.{length};
 ghost use Rattle.rank_sel.specs.Numbers.{ceilDiv};
 ghost use Rattle.rank_sel.specs.Outcome.{answered, orRefuse};
@@ -8,7 +8,7 @@ ghost use Rattle.rank_sel.specs.Seek.{seek};
 ghost use Rattle.bit_record.specs.Record.{Admitted, bitAt, chosen, selected};
 ghost use Rattle.inventory.specs.Index.{ranksOf};
 ghost use Rattle.inventory.specs.Shape.{spilledBy};
-ghost use Rattle.inventory.specs.Read.{PointsAt, cellsOf, dwellBy, dwellOf, hintOf, hinted, positionOf, selectOf, subinventoryOf};
+ghost use Rattle.inventory.specs.Read.{PartIn, PointsAt, cellsOf, dwellBy, dwellOf, hintOf, hinted, partOf, positionOf, selectOf, subinventoryOf};
 ghost use Rattle.inventory.specs.Steps.{Countable, Readable, reasonOf};
 use crate::SpanType;
 use crate::Summary;
@@ -136,7 +136,40 @@ fn spilled_at(plan: Parameters, decoded: Decoded) -> u64
     )
 }
 
-// Store: the cells where a rank's mark is recorded, a part of one of the two lent slices; empty where hint refuses.
+// A part of the lent cells, as its first cell and how many they are.
+pub enum CellPart {
+    Inventory(u64, u64),
+    Spill(u64, u64),
+    Empty,
+}
+
+// Store, by number: which cells record a rank's mark; empty where hint refuses.
+pub fn subinventory_part(
+    words: &[u64],
+    summary: Summary,
+    inventory: &[u64],
+    spill: &[u64],
+    rank: u64,
+) -> CellPart
+    ensures { λ r. ⌜ (partOf r ≡ subinventoryOf (now (words .entry)) summary (now (inventory .entry)) (now (spill .entry)) rank) × PartIn (now (inventory .entry)) (now (spill .entry)) (partOf r) ⌝ }
+{
+    let Tested::Passed = test_call(words, summary, inventory, spill, rank) else {
+        return CellPart::Empty;
+    };
+    let Decoding::Mark(decoded) = decode(summary, inventory, spill, rank) else {
+        return CellPart::Empty;
+    };
+    let head = decoded.head;
+    let own = head.cell + 1;
+    if decoded.spilled {
+        let from = inventory[own as usize];
+        let n = min(spilled_at(summary.plan, decoded), summary.spill_len - from);
+        return CellPart::Spill(from, n);
+    }
+    CellPart::Inventory(own, pow2(summary.plan.log2_words_per_subinventory))
+}
+
+// Store: the same cells, as a part of one of the two lent slices.
 pub fn subinventory<'a>(
     words: &[u64],
     summary: Summary,
@@ -147,23 +180,19 @@ pub fn subinventory<'a>(
     ensures contents { λ r. ⌜ now r ≡ cellsOf (now (inventory .entry)) (now (spill .entry)) (subinventoryOf (now (words .entry)) summary (now (inventory .entry)) (now (spill .entry)) rank) ⌝ }
     ensures place { λ r. ⌜ PointsAt (inventory .entry) (spill .entry) (subinventoryOf (now (words .entry)) summary (now (inventory .entry)) (now (spill .entry)) rank) r ⌝ }
 {
-    let Tested::Passed = test_call(words, summary, inventory, spill, rank) else {
-        return &inventory[0..0];
-    };
-    let Decoding::Mark(decoded) = decode(summary, inventory, spill, rank) else {
-        return &inventory[0..0];
-    };
-    let head = decoded.head;
-    let own = head.cell as usize + 1;
-    if decoded.spilled {
-        let from = inventory[own];
-        let n = min(spilled_at(summary.plan, decoded), summary.spill_len - from);
-        let start = from as usize;
-        let end = (from + n) as usize;
-        return &spill[start..end];
+    match subinventory_part(words, summary, inventory, spill, rank) {
+        CellPart::Inventory(first, n) => {
+            let start = first as usize;
+            let end = (first + n) as usize;
+            &inventory[start..end]
+        }
+        CellPart::Spill(first, n) => {
+            let start = first as usize;
+            let end = (first + n) as usize;
+            &spill[start..end]
+        }
+        CellPart::Empty => &inventory[0..0],
     }
-    let end = own + pow2(summary.plan.log2_words_per_subinventory) as usize;
-    &inventory[own..end]
 }
 
 // The one place for the dwell of two positions.

@@ -7,11 +7,13 @@ mod decode;
 mod jump;
 mod tests;
 
+pub use jump::CellPart;
 pub use jump::Hinted;
 pub use jump::dwell;
 pub use jump::hint;
 pub use jump::select;
 pub use jump::subinventory;
+pub use jump::subinventory_part;
 use rank_sel::ilog2;
 use rank_sel::pow2;
 use rank_sel::saturating_sub;

@@ -1,0 +1,3 @@
+mod Returns
+pub mod Logarithms
+pub mod Slices

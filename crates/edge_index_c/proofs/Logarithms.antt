@@ -1,0 +1,173 @@
+-- The cut to 32 bits alters no answer.
+use mathlib.Core.Bool.{Bool, true, false, cond, _&&_, _||_}
+use mathlib.Core.List.{List}
+use mathlib.Core.Logic.{_⊎_, ⊎-elim, inl, inr}
+use mathlib.Core.Path.{_≡_, refl, sym, ap, _∙_}
+use Prim.Native.Nat.{ℕ, _-_, _≤_, _<_}
+use native.Mathlib.Omega.{arith}
+use lib.Dec.{eqb, ltb}
+use lib.Ieee.{Float}
+use lib.ListN.{length, getD}
+use borrow.Author.Tests.{lt-ltb, ne-eqb}
+use Rattle.rank_sel.specs.Outcome.{Outcome, answer, refused, refuseIf, andThen}
+use Rattle.rank_sel.proofs.Numbers.{lt-or-le}
+use Rattle.bit_record.specs.Record.{numSelected, lenTooLarge, tooFewWords}
+use Rattle.bit_record.specs.declared.Polarity.{Polarity}
+use Rattle.spacing.specs.Spacing.{L, M, S, fixed, power, rule, chosenPlan, planOf}
+use Rattle.spacing.specs.declared.Choice.{Choice}
+use Rattle.spacing.specs.declared.Choice.the-variants.{Default, Span, Power, Overhead, Fixed}
+use Rattle.spacing.specs.declared.Parameters.{Parameters}
+use Rattle.inventory.specs.Read.{decode, unlawful, tested, rankTooLarge, positionOf, dwellBy, selectOf, hintOf, dwellOf, subinventoryOf}
+use Rattle.inventory.specs.declared.Summary.{Summary}
+use Rattle.build_inventory.specs.Build.{fitted, measured, sizeOf, buildOf, samePlan, sameSummary, checkOf}
+use Rattle.build_inventory.specs.Compare.{sameIndex}
+use Rattle.build_inventory.specs.Positions.{posIn}
+use Rattle.build_inventory.proofs.Outcomes.{admission}
+use Rattle.edge_index_c.specs.Codes.{cut, choiceBy, choiceAt, summaryBy, summaryAt}
+use Rattle.edge_index_c.specs.Logarithms.{SameChoice, SameAnswers}
+
+-- ---- a choice
+-- as it was handed in
+abbrev same : ℕ → ℕ
+same n = n
+
+-- a value that is not small stays so
+cut-cases : (n : ℕ) → (cut n ≡ n) ⊎ ((63 < cut n) × (63 < n))
+cut-cases n = ⊎-elim (λ (h : n < 64). inl (omega arith)) (λ (h : 64 ≤ n). inr (omega arith, omega arith)) (lt-or-le n 64)
+
+module _ (pol : Polarity) (len num : ℕ) where
+  power-cut : (l m : ℕ) → chosenPlan pol len num (power (cut l) m) ≡ chosenPlan pol len num (power l m)
+  unfolding chosenPlan
+  power-cut l m = ⊎-elim (λ (e : cut l ≡ l). ap (λ (z : ℕ). chosenPlan pol len num (power z m)) e)
+      (λ (h : (63 < cut l) × (63 < l)). simp (lt-ltb 63 (cut l) (h .0), lt-ltb 63 l (h .1))) (cut-cases l)
+
+  fixed-cut : (l m : ℕ) → chosenPlan pol len num (fixed (cut l) m) ≡ chosenPlan pol len num (fixed l m)
+  unfolding chosenPlan
+  fixed-cut l m = ⊎-elim (λ (e : cut l ≡ l). ap (λ (z : ℕ). chosenPlan pol len num (fixed z m)) e)
+      (λ (h : (63 < cut l) × (63 < l)). simp (lt-ltb 63 (cut l) (h .0), lt-ltb 63 l (h .1))) (cut-cases l)
+
+  chosen-cut : (kind value : ℕ) (percentage : Float) (log2 : ℕ) → chosenPlan pol len num (rule (choiceAt kind value percentage log2)) ≡ chosenPlan pol len num (rule (choiceBy same kind value percentage log2))
+  unfolding choiceAt
+  chosen-cut kind value percentage log2 = go (eqb kind 0) (eqb kind 1) (eqb kind 2) (eqb kind 3)
+    where
+      by : (ℕ → ℕ) → Bool → Bool → Bool → Bool → Choice
+      by f a b c d = cond a Default (cond b (Span value log2) (cond c (Power (f value) log2) (cond d (Overhead percentage log2) (Fixed (f value) log2))))
+
+      go : (a b c d : Bool) → chosenPlan pol len num (rule (by cut a b c d)) ≡ chosenPlan pol len num (rule (by same a b c d))
+      go true b c d = refl
+      go false true c d = refl
+      go false false true d = power-cut value log2
+      go false false false true = refl
+      go false false false false = fixed-cut value log2
+
+module _ (kind value : ℕ) (percentage : Float) (log2 : ℕ) where
+  plan-cut : (ws : List ℕ) (len : ℕ) (pol : Polarity) → planOf ws len pol (choiceAt kind value percentage log2) ≡ planOf ws len pol (choiceBy same kind value percentage log2)
+  unfolding planOf
+  plan-cut ws len pol = rw (chosen-cut pol len (numSelected pol ws len) kind value percentage log2)
+
+  measured-cut : (ws : List ℕ) (len : ℕ) (pol : Polarity) (most : ℕ) → measured ws len pol (choiceAt kind value percentage log2) most ≡ measured ws len pol (choiceBy same kind value percentage log2) most
+  unfolding measured
+  measured-cut ws len pol most = ap (λ (o : Outcome Parameters). andThen o (λ p. fitted ws p most)) (plan-cut ws len pol)
+
+  build-cut : (ws : List ℕ) (len : ℕ) (pol : Polarity) (cells spill : ℕ) → buildOf ws len pol (choiceAt kind value percentage log2) cells spill ≡ buildOf ws len pol (choiceBy same kind value percentage log2) cells spill
+  unfolding buildOf
+  build-cut ws len pol cells spill = rw (measured-cut ws len pol cells)
+
+  pub choice-cut : SameChoice (choiceAt kind value percentage log2) (choiceBy same kind value percentage log2)
+  unfolding sizeOf checkOf
+  choice-cut = record {
+    plan = plan-cut;
+    size = λ ws len pol. rw (measured-cut ws len pol 18446744073709551615);
+    build = build-cut;
+    check = λ ws len pol t inv sp. rw (build-cut ws len pol (length inv) (length sp));
+  }
+
+-- ---- a summary
+-- one of the three is over 63; M may be no more than 53
+Over : Summary → Type 0
+Over t = (63 < L (t .plan)) ⊎ ((63 < M (t .plan)) ⊎ (63 < S (t .plan)))
+
+or-true : (a : Bool) → a || true ≡ true
+or-true true = refl
+or-true false = refl
+
+and-false : (a : Bool) → a && false ≡ false
+and-false true = refl
+and-false false = refl
+
+over-unlawful : (t : Summary) → Over t → unlawful t ≡ true
+unfolding unlawful Over
+over-unlawful t o = ⊎-elim (λ (h : 63 < L (t .plan)). large h)
+    (⊎-elim (λ (h : 63 < M (t .plan)). simp (lt-ltb 53 (M (t .plan)) (omega arith), or-true))
+    (λ (h : 63 < S (t .plan)). ⊎-elim (λ (l : L (t .plan) < 64). simp (ne-eqb (S (t .plan)) (L (t .plan) - M (t .plan) - 2) (λ e. omega arith), or-true)) (λ (l : 64 ≤ L (t .plan)). large (omega arith)) (lt-or-le (L (t .plan)) 64))) o
+  where
+    large : 63 < L (t .plan) → unlawful t ≡ true
+    large h = simp (lt-ltb 63 (L (t .plan)) h, or-true)
+
+over-differs : (t u : Summary) → Over t → L (u .plan) ≤ 63 → M (u .plan) ≤ 53 → S (u .plan) ≤ 63 → sameSummary t u ≡ false
+unfolding sameSummary samePlan Over
+over-differs t u o l m s = ⊎-elim (λ (h : 63 < L (t .plan)). simp (ne-eqb (L (t .plan)) (L (u .plan)) (λ e. omega arith), and-false))
+    (⊎-elim (λ (h : 63 < M (t .plan)). simp (ne-eqb (M (t .plan)) (M (u .plan)) (λ e. omega arith), and-false))
+    (λ (h : 63 < S (t .plan)). simp (ne-eqb (S (t .plan)) (S (u .plan)) (λ e. omega arith), and-false))) o
+
+-- an unlawful summary is 9, where it is neither 1 nor 2
+refusal-of : List ℕ → ℕ → ℕ
+refusal-of ws len = cond (lenTooLarge len) 1 (cond (tooFewWords ws len) 2 9)
+
+unlawful-refused : {A : Type 0} (ws : List ℕ) (t : Summary) (inv sp : List ℕ) (rest : Outcome A) → unlawful t ≡ true → tested ws t inv sp rest ≡ refused (refusal-of ws (t .plan .len))
+unfolding tested refusal-of
+unlawful-refused {A} ws t inv sp rest e = rw e (go (lenTooLarge (t .plan .len)) (tooFewWords ws (t .plan .len)))
+  where
+    go : (a b : Bool) → refuseIf {A = A} a 1 (refuseIf b 2 (refused 9)) ≡ refused (cond a 1 (cond b 2 9))
+    go true b = refl
+    go false true = refl
+    go false false = refl
+
+-- two summaries of one len that are equal, or both over
+data Alike (t u : Summary) : Type 0 where
+  equal : t ≡ u → Alike t u
+  both : t .plan .len ≡ u .plan .len → Over t → Over u → Alike t u
+
+module _ {t u : Summary} where
+  tests-alike : {A : Type 0} → Alike t u → (ws inv sp : List ℕ) (rest : Summary → Outcome A) → tested ws t inv sp (rest t) ≡ tested ws u inv sp (rest u)
+  tests-alike (equal e) ws inv sp rest = ap (λ (z : Summary). tested ws z inv sp (rest z)) e
+  tests-alike (both e o p) ws inv sp rest =
+      unlawful-refused ws t inv sp (rest t) (over-unlawful t o) ∙ ap (λ (n : ℕ). refused (refusal-of ws n)) e ∙ sym (unlawful-refused ws u inv sp (rest u) (over-unlawful u p))
+
+  store-alike : Alike t u → (ws inv sp : List ℕ) (r : ℕ) → subinventoryOf ws t inv sp r ≡ subinventoryOf ws u inv sp r
+  unfolding subinventoryOf hintOf
+  store-alike (equal e) ws inv sp r = ap (λ (z : Summary). subinventoryOf ws z inv sp r) e
+  store-alike (both e o p) ws inv sp r = rw (unlawful-refused ws t inv sp (refuseIf (rankTooLarge t r) 8 (decode t inv sp r)) (over-unlawful t o), unlawful-refused ws u inv sp (refuseIf (rankTooLarge u r) 8 (decode u inv sp r)) (over-unlawful u p))
+
+  verdict-alike : Alike t u → (b : Summary → Bool) (o : Outcome Summary) → ((v : Summary) → o ≡ answer v → (L (v .plan) ≤ 63) × (M (v .plan) ≤ 53) × (S (v .plan) ≤ 63))
+      → andThen o (λ v. answer (sameSummary t v && b v)) ≡ andThen o (λ v. answer (sameSummary u v && b v))
+  verdict-alike (equal e) b o small = ap (λ (z : Summary). andThen o (λ v. answer (sameSummary z v && b v))) e
+  verdict-alike (both e x y) b (answer v) small =
+      let s = small v refl in
+      rw (over-differs t v x (s .0) (s .1) (s .2), over-differs u v y (s .0) (s .1) (s .2))
+  verdict-alike (both e x y) b (refused n) small = refl
+
+  answers-alike : Alike t u → SameAnswers t u
+  unfolding checkOf selectOf hintOf dwellOf
+  answers-alike w = record {
+    check = λ ws len pol c inv sp. verdict-alike w (λ v. sameIndex (posIn ws (v .plan)) (v .plan) inv sp) (buildOf ws len pol c (length inv) (length sp))
+        (λ v e. let a = admission ws len pol c (length inv) (length sp) v e .plans in (a .smallL, a .smallM, omega (arith, a .spaced, a .smallL)));
+    select = λ ws inv sp r. tests-alike w ws inv sp (λ z. refuseIf (rankTooLarge z r) 8 (positionOf ws z inv sp r));
+    hint = λ ws inv sp r. tests-alike w ws inv sp (λ z. refuseIf (rankTooLarge z r) 8 (decode z inv sp r));
+    store = store-alike w;
+    dwell = λ ws inv sp a b. tests-alike w ws inv sp
+        (λ z. refuseIf (rankTooLarge z a) 8 (refuseIf (rankTooLarge z b) 8 (refuseIf (ltb b a) 11 (andThen (positionOf ws z inv sp a) (λ p. andThen (positionOf ws z inv sp b) (λ o. dwellBy p o))))));
+  }
+
+pub summary-cut : (s : List ℕ) → SameAnswers (summaryAt s) (summaryBy same s)
+unfolding summaryAt Over
+summary-cut s = answers-alike
+    (⊎-elim (λ (e : cut (getD s 3 0) ≡ getD s 3 0). ⊎-elim
+    (λ (f : cut (getD s 4 0) ≡ getD s 4 0). ⊎-elim
+    (λ (g : cut (getD s 5 0) ≡ getD s 5 0). equal (simp (e, f, g)))
+    (λ (h : (63 < cut (getD s 5 0)) × (63 < getD s 5 0)). both refl (inr (inr (h .0))) (inr (inr (h .1))))
+    (cut-cases (getD s 5 0)))
+    (λ (h : (63 < cut (getD s 4 0)) × (63 < getD s 4 0)). both refl (inr (inl (h .0))) (inr (inl (h .1))))
+    (cut-cases (getD s 4 0)))
+    (λ (h : (63 < cut (getD s 3 0)) × (63 < getD s 3 0)). both refl (inl (h .0)) (inl (h .1)))
+    (cut-cases (getD s 3 0)))

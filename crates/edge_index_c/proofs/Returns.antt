@@ -1,0 +1,68 @@
+-- How what a call leaves follows from what the entry told.
+use mathlib.Core.Bool.{Bool, true, false, not}
+use mathlib.Core.List.{List}
+use mathlib.Core.Path.{_≡_, sym, ap, _∙_}
+use Prim.Native.Nat.{ℕ, _≤_}
+use native.Mathlib.Omega.{arith}
+use borrow.Author.Tests.{not-true, not-false}
+use Rattle.rank_sel.specs.Outcome.{Outcome, answer, refused, numberOf, andThen}
+use Rattle.rank_sel.specs.declared.Refusal.{Refusal}
+use Rattle.rank_sel.specs.declared.Refusal.the-variants.{LenTooLarge, TooFewWords, OnesPerInventoryTooLarge, WordsPerSubinventoryTooLarge, OverheadNotPositive, InventoryTooShort, SpillTooShort, RankTooLarge, SummaryUnlawful, CellsUnlawful, RanksFall}
+use Rattle.inventory.specs.declared.Summary.{Summary}
+use Rattle.build_inventory.specs.Build.{BuiltAs, built, inventoryAfter, spillAfter}
+use Rattle.build_inventory.specs.declared.Built.{Built}
+use Rattle.build_inventory.specs.declared.Built.the-variants as Built·v
+use Rattle.edge_index_c.specs.Calls.{Returned, BuiltC, statusOf, outOf}
+use Rattle.edge_index_c.specs.Codes.{known, numbersOf}
+
+pub number-small : (r : Refusal) → numberOf r ≤ 11
+number-small LenTooLarge = omega arith
+number-small TooFewWords = omega arith
+number-small OnesPerInventoryTooLarge = omega arith
+number-small WordsPerSubinventoryTooLarge = omega arith
+number-small OverheadNotPositive = omega arith
+number-small InventoryTooShort = omega arith
+number-small SpillTooShort = omega arith
+number-small RankTooLarge = omega arith
+number-small SummaryUnlawful = omega arith
+number-small CellsUnlawful = omega arith
+number-small RanksFall = omega arith
+
+pub ap2 : {A B C : Type 0} (f : A → B → C) {a b : A} {p q : B} → a ≡ b → p ≡ q → f a p ≡ f b q
+ap2 f {a} {b} {p} {q} e g = ap (λ x. f x p) e ∙ ap (f b) g
+
+module _ {A : Type 0} {o : Outcome A} where
+  pub returned-no : {n r : ℕ} {x : A} → refused n ≡ o → r ≡ n → Returned o r x x
+  returned-no {x = x} e er = record { status = er ∙ ap statusOf e; out = ap (λ (q : Outcome A). outOf q x) e }
+
+  pub returned-yes : {a x₀ x : A} → answer a ≡ o → x ≡ a → Returned o 0 x₀ x
+  returned-yes {x₀ = x₀} e ex = record { status = ap statusOf e; out = ex ∙ ap (λ (q : Outcome A). outOf q x₀) e }
+
+  pub returned-as : {q : Outcome A} {r : ℕ} {x₀ x : A} → q ≡ o → Returned q r x₀ x → Returned o r x₀ x
+  returned-as {x₀ = x₀} e w = record { status = w .status ∙ ap statusOf e; out = w .out ∙ ap (λ (q : Outcome A). outOf q x₀) e }
+
+-- what the test of polarity and kind found
+pub is-unknown : (b : Bool) (pol kind : ℕ) → b ≡ known pol kind → not b ≡ true → known pol kind ≡ false
+is-unknown b pol kind e t = sym e ∙ not-true b t
+
+pub is-known : (b : Bool) (pol kind : ℕ) → b ≡ known pol kind → not b ≡ false → known pol kind ≡ true
+is-known b pol kind e t = sym e ∙ not-false b t
+
+module _ {ws : List ℕ} {o q : Outcome Summary} {inv₀ inv sp₀ sp : List ℕ} {b : Built} (same : q ≡ o) (w : BuiltAs ws q inv₀ inv sp₀ sp b) where
+  pub built-yes : {out₀ out : List ℕ} (t : Summary) → b ≡ Built·v.Summary t → out ≡ numbersOf t → BuiltC ws o inv₀ inv sp₀ sp out₀ out 0
+  built-yes t e eo =
+      let told : answer t ≡ o = sym (ap built e) ∙ w .answers ∙ same in
+      record {
+        returned = returned-yes (ap (λ (u : Outcome Summary). andThen u (λ s. answer (numbersOf s))) told) eo;
+        inventory = w .inventory ∙ ap (inventoryAfter ws inv₀) same;
+        spill = w .spill ∙ ap (spillAfter ws sp₀) same;
+      }
+
+  pub built-no : {out : List ℕ} {r : ℕ} (y : Refusal) → b ≡ Built·v.Refused y → r ≡ numberOf y → BuiltC ws o inv₀ inv sp₀ sp out out r
+  built-no y e er =
+      let told : refused (numberOf y) ≡ o = sym (ap built e) ∙ w .answers ∙ same in
+      record {
+        returned = returned-no (ap (λ (u : Outcome Summary). andThen u (λ s. answer (numbersOf s))) told) er;
+        inventory = w .inventory ∙ ap (inventoryAfter ws inv₀) same;
+        spill = w .spill ∙ ap (spillAfter ws sp₀) same;
+      }

@@ -1,0 +1,41 @@
+use mathlib.Core.Path.{refl, ap, _∙_}
+use borrow.Author.Tests.{lt-ltb, le-ltb}
+use borrow.Author.Needs.{needs}
+use Rattle.inventory.specs.Read.{selectOf}
+use Rattle.inventory.specs.declared.Summary.{Summary}
+use Rattle.edge_index_c.specs.Calls.{selectC}
+use Rattle.edge_index_c.proofs.Returns.{returned-as}
+use Rattle.edge_index_c.proofs.edge_index_select.Statement.{statement}
+use Rattle.edge_index_c.proofs.edge_index_select.Tie as tie
+
+element-copy-out-if1 : tie.Need-element-copy-out-if1
+element-copy-out-if1 c = search needs
+
+returns : tie.Need-returns
+unfolding selectC
+returns c = rw (lt-ltb _ _ (c .if1 .taken)) (record { status = refl; out = refl })
+
+summary-at-requires : tie.Need-summary-at-requires
+summary-at-requires c κs = search needs
+
+select-requires : tie.Need-select-requires
+select-requires c κs = search needs
+
+give-requires : tie.Need-give-requires
+give-requires c κs = search needs
+
+returns-2 : tie.Need-returns-2
+unfolding selectC
+returns-2 c = let a = c .before .before .before .before .before .before .before .before .before .args in
+    rw (le-ltb _ _ (c .before .before .before .before .if1 .left)) (returned-as (c .before .before .select .ensures ∙ ap (λ (t : Summary). selectOf (a .words .now) t (a .inventory .now) (a .spill .now) (a .rank)) (c .before .before .before .summary-at .ensures)) (c .give .ensures))
+
+pub edge-index-select-spec : {M : Type 1} → statement M
+edge-index-select-spec =
+    tie.close
+    (tie.spec
+    element-copy-out-if1
+    returns
+    summary-at-requires
+    select-requires
+    give-requires
+    returns-2)

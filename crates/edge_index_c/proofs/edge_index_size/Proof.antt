@@ -1,0 +1,59 @@
+use mathlib.Core.Path.{refl, sym, ap, _∙_}
+use borrow.Author.Needs.{needs}
+use Rattle.build_inventory.specs.Build.{sizeOf, sized}
+use Rattle.edge_index_c.specs.Calls.{sizeC}
+use Rattle.edge_index_c.proofs.Returns.{ap2, is-known, is-unknown, returned-yes, returned-no}
+use Rattle.edge_index_c.proofs.edge_index_size.Statement.{statement}
+use Rattle.edge_index_c.proofs.edge_index_size.Tie as tie
+
+is-known-requires : tie.Need-is-known-requires
+is-known-requires c κs = search needs
+
+returns : tie.Need-returns
+unfolding sizeC
+returns c = rw (is-unknown _ _ _ (c .before .is-known .ensures) (c .if1 .taken)) (record { status = refl; out = refl })
+
+choice-at-requires : tie.Need-choice-at-requires
+choice-at-requires c κs = search needs
+
+polarity-at-requires : tie.Need-polarity-at-requires
+polarity-at-requires c κs = search needs
+
+size-requires : tie.Need-size-requires
+size-requires c κs = search needs
+
+enum-known-inventory : tie.Need-enum-known-inventory
+enum-known-inventory c = search needs
+
+enum-known-refusal : tie.Need-enum-known-refusal
+enum-known-refusal c = search needs
+
+status-requires : tie.Need-status-requires
+status-requires c κs = search needs
+
+returns-2 : tie.Need-returns-2
+unfolding sizeC
+returns-2 c = let a = c .before .before .before .before .before .before .before .before .before .args in
+    rw (is-known _ _ _ (c .before .before .before .before .before .before .before .is-known .ensures) (c .before .before .before .before .before .before .if1 .left))
+    (returned-yes (sym (ap sized (c .before .inventory .given .1)) ∙ c .before .before .before .size .ensures ∙ ap2 (sizeOf (a .words .now) (a .len)) (c .before .before .before .before .polarity-at .ensures) (c .before .before .before .before .before .choice-at .ensures)) refl)
+
+returns-3 : tie.Need-returns-3
+unfolding sizeC
+returns-3 c = let a = c .before .before .before .before .before .before .before .before .before .before .args in
+    rw (is-known _ _ _ (c .before .before .before .before .before .before .before .before .is-known .ensures) (c .before .before .before .before .before .before .before .if1 .left))
+    (returned-no (sym (ap sized (c .before .before .refusal .given .1)) ∙ c .before .before .before .before .size .ensures ∙ ap2 (sizeOf (a .words .now) (a .len)) (c .before .before .before .before .before .polarity-at .ensures) (c .before .before .before .before .before .before .choice-at .ensures)) (c .status .ensures))
+
+pub edge-index-size-spec : {M : Type 1} → statement M
+edge-index-size-spec =
+    tie.close
+    (tie.spec
+    is-known-requires
+    returns
+    choice-at-requires
+    polarity-at-requires
+    size-requires
+    enum-known-inventory
+    enum-known-refusal
+    status-requires
+    returns-2
+    returns-3)

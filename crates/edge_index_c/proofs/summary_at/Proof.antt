@@ -1,0 +1,62 @@
+use borrow.Author.Needs.{needs}
+use Rattle.edge_index_c.specs.Codes.{summaryAt}
+use Rattle.edge_index_c.proofs.summary_at.Statement.{statement}
+use Rattle.edge_index_c.proofs.summary_at.Tie as tie
+
+element-copy-out-polarity-at : tie.Need-element-copy-out-polarity-at
+element-copy-out-polarity-at c = search needs
+
+polarity-at-requires : tie.Need-polarity-at-requires
+polarity-at-requires c κs = search needs
+
+element-copy-out-t9 : tie.Need-element-copy-out-t9
+element-copy-out-t9 c = search needs
+
+element-copy-out-t12 : tie.Need-element-copy-out-t12
+element-copy-out-t12 c = search needs
+
+element-copy-out-cut : tie.Need-element-copy-out-cut
+element-copy-out-cut c = search needs
+
+cut-requires : tie.Need-cut-requires
+cut-requires c κs = search needs
+
+element-copy-out-cut-2 : tie.Need-element-copy-out-cut-2
+element-copy-out-cut-2 c = search needs
+
+cut-requires-2 : tie.Need-cut-requires-2
+cut-requires-2 c κs = search needs
+
+element-copy-out-cut-3 : tie.Need-element-copy-out-cut-3
+element-copy-out-cut-3 c = search needs
+
+cut-requires-3 : tie.Need-cut-requires-3
+cut-requires-3 c κs = search needs
+
+element-copy-out-t6 : tie.Need-element-copy-out-t6
+element-copy-out-t6 c = search needs
+
+element-copy-out-t24 : tie.Need-element-copy-out-t24
+element-copy-out-t24 c = search needs
+
+returns : tie.Need-returns
+unfolding summaryAt
+returns c = rw (c .before .before .before .before .before .before .before .before .before .before .polarity-at .ensures, c .before .before .before .before .before .before .cut .ensures, c .before .before .before .before .cut2 .ensures, c .before .before .cut3 .ensures)
+
+pub summary-at-spec : {M : Type 1} → statement M
+summary-at-spec =
+    tie.close
+    (tie.spec
+    element-copy-out-polarity-at
+    polarity-at-requires
+    element-copy-out-t9
+    element-copy-out-t12
+    element-copy-out-cut
+    cut-requires
+    element-copy-out-cut-2
+    cut-requires-2
+    element-copy-out-cut-3
+    cut-requires-3
+    element-copy-out-t6
+    element-copy-out-t24
+    returns)

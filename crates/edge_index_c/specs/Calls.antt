@@ -1,0 +1,108 @@
+-- What each call of include/edge_index.h returns and writes, by the definitions of the entry that it stands for.
+use mathlib.Core.Bool.{Bool, true, false, not}
+use mathlib.Core.List.{List}
+use mathlib.Core.Path.{_≡_}
+use Prim.Native.Nat.{ℕ}
+use lib.Dec.{ltb}
+use lib.Ieee.{Float}
+use lib.ListN.{getD}
+use Rattle.rank_sel.specs.Outcome.{Outcome, answer, refused, refuseIf, andThen}
+use Rattle.bit_record.specs.Record.{countOf}
+use Rattle.spacing.specs.Spacing.{planOf}
+use Rattle.inventory.specs.Read.{Hint, Part, ofInventory, ofSpill, empty, selectOf, hintOf, dwellOf, subinventoryOf}
+use Rattle.inventory.specs.declared.Summary.{Summary}
+use Rattle.build_inventory.specs.Build.{Sizes, sizeOf, buildOf, checkOf, inventoryAfter, spillAfter}
+use Rattle.edge_index_c.specs.Codes.{badCode, known, polarityAt, choiceAt, summaryAt, numbersOf, uncounted}
+
+-- ---- what a call whose outcome is o leaves
+-- 0 for an answer, else the refusal's number
+abbrev pub statusOf : {A : Type 0} → Outcome A → ℕ
+statusOf (answer a) = 0
+statusOf (refused n) = n
+
+-- an answer is written; a refusal writes nothing
+abbrev pub outOf : {A : Type 0} → Outcome A → A → A
+outOf (answer a) x = a
+outOf (refused n) x = x
+
+-- it returned r, and behind the out-parameters stood x₀ and stands x
+pub record Returned {A : Type 0} (o : Outcome A) (r : ℕ) (x₀ x : A) : Type 0 where
+  pub status : r ≡ statusOf o
+  pub out : x ≡ outOf o x₀
+
+-- ---- calls on a record
+unfoldable pub countC : List ℕ → ℕ → ℕ → Outcome ℕ
+countC ws len pol = refuseIf (ltb 1 pol) badCode (countOf ws len (polarityAt pol))
+
+-- polarity and kind are tested before all else
+abbrev pub ifKnown : {A : Type 0} → ℕ → ℕ → Outcome A → Outcome A
+ifKnown pol kind rest = refuseIf (not (known pol kind)) badCode rest
+
+unfoldable pub planC : List ℕ → ℕ → ℕ → ℕ → ℕ → Float → ℕ → Outcome (List ℕ)
+planC ws len pol kind value percentage log2 =
+    ifKnown pol kind
+    (andThen (planOf ws len (polarityAt pol) (choiceAt kind value percentage log2)) (λ p. answer (numbersOf (uncounted p))))
+
+unfoldable pub sizeC : List ℕ → ℕ → ℕ → ℕ → ℕ → Float → ℕ → Outcome Sizes
+sizeC ws len pol kind value percentage log2 = ifKnown pol kind (sizeOf ws len (polarityAt pol) (choiceAt kind value percentage log2))
+
+abbrev pub sizesAs : ℕ → ℕ → Sizes
+sizesAs inventory spill = record { inventory = inventory; spill = spill }
+
+-- build, where so many cells are lent
+unfoldable pub buildC : List ℕ → ℕ → ℕ → ℕ → ℕ → Float → ℕ → ℕ → ℕ → Outcome Summary
+buildC ws len pol kind value percentage log2 cells spill =
+    ifKnown pol kind (buildOf ws len (polarityAt pol) (choiceAt kind value percentage log2) cells spill)
+
+-- a build whose outcome is o returned r and left these cells and numbers
+pub record BuiltC (ws : List ℕ) (o : Outcome Summary) (inv₀ inv sp₀ sp out₀ out : List ℕ) (r : ℕ) : Type 0 where
+  pub returned : Returned (andThen o (λ t. answer (numbersOf t))) r out₀ out
+  pub inventory : inv ≡ inventoryAfter ws inv₀ o
+  pub spill : sp ≡ spillAfter ws sp₀ o
+
+-- a summary's polarity is tested before all else
+abbrev pub ifRead : {A : Type 0} → List ℕ → Outcome A → Outcome A
+ifRead s rest = refuseIf (ltb 1 (getD s 0 0)) badCode rest
+
+-- a yes is 1, a no 0
+abbrev pub verdictOf : Outcome Bool → Outcome ℕ
+verdictOf (answer true) = answer 1
+verdictOf (answer false) = answer 0
+verdictOf (refused n) = refused n
+
+unfoldable pub checkC : List ℕ → ℕ → ℕ → ℕ → ℕ → Float → ℕ → List ℕ → List ℕ → List ℕ → Outcome ℕ
+checkC ws len pol kind value percentage log2 s inv sp =
+    ifKnown pol kind
+    (ifRead s (verdictOf (checkOf ws len (polarityAt pol) (choiceAt kind value percentage log2) (summaryAt s) inv sp)))
+
+-- ---- calls on an index
+unfoldable pub selectC : List ℕ → List ℕ → List ℕ → List ℕ → ℕ → Outcome ℕ
+selectC ws s inv sp r = ifRead s (selectOf ws (summaryAt s) inv sp r)
+
+unfoldable pub hintC : List ℕ → List ℕ → List ℕ → List ℕ → ℕ → Outcome Hint
+hintC ws s inv sp r = ifRead s (hintOf ws (summaryAt s) inv sp r)
+
+abbrev pub hintAs : ℕ → ℕ → Hint
+hintAs mark rank = record { mark = mark; rank = rank }
+
+unfoldable pub dwellC : List ℕ → List ℕ → List ℕ → List ℕ → ℕ → ℕ → Outcome ℕ
+dwellC ws s inv sp a b = ifRead s (dwellOf ws (summaryAt s) inv sp a b)
+
+-- a part as numbers: its slice, 1 the inventory, 2 the spill; its first cell; how many
+pub record Cells : Type 0 where
+  pub slice : ℕ
+  pub first : ℕ
+  pub cells : ℕ
+
+abbrev pub cellsAs : ℕ → ℕ → ℕ → Cells
+cellsAs slice first cells = record { slice = slice; first = first; cells = cells }
+
+-- store's part is empty only where hint refuses: proofs/Slices.antt
+abbrev pub partNumbers : Part → Cells
+partNumbers (ofInventory c n) = cellsAs 1 c n
+partNumbers (ofSpill c n) = cellsAs 2 c n
+partNumbers empty = cellsAs 0 0 0
+
+unfoldable pub subinventoryC : List ℕ → List ℕ → List ℕ → List ℕ → ℕ → Outcome Cells
+subinventoryC ws s inv sp r =
+    ifRead s (andThen (hintOf ws (summaryAt s) inv sp r) (λ h. answer (partNumbers (subinventoryOf ws (summaryAt s) inv sp r))))
