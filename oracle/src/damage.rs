@@ -1,0 +1,373 @@
+//! Jump, hint, store, dwell and check on damaged summaries and cells, against the model; and count, plan, size and
+//! build on damaged records, choices and buffers.
+
+use crate::cases::*;
+use crate::compare::Case;
+use crate::ffi;
+use crate::model::{self, Answer, Choice, ONES, Summary};
+use crate::random::Random;
+use std::collections::BTreeMap;
+use std::fmt::Debug;
+use std::time::Instant;
+
+/// The two bits of the tag.
+const TAG: u64 = 3 << 62;
+
+/// Everything a call may take; damaged in place.
+#[derive(Clone)]
+struct Input {
+    words: Vec<u64>,
+    len: u64,
+    polarity: u32,
+    choice: Choice,
+    summary: Summary,
+    inventory: Vec<u64>,
+    spill: Vec<u64>,
+}
+
+#[derive(Default)]
+struct Tally {
+    calls: u64,
+    differences: u64,
+    /// For each call, how often it answered and how often each refusal was said.
+    outcomes: BTreeMap<&'static str, BTreeMap<u32, u64>>,
+}
+
+impl Tally {
+    fn equal<T: PartialEq + Debug>(&mut self, call: &'static str, input: &Input, ours: Answer<T>, model: Answer<T>) {
+        self.calls += 1;
+        let outcome = model.as_ref().err().copied().unwrap_or(0);
+        *self.outcomes.entry(call).or_default().entry(outcome).or_default() += 1;
+        if ours != model {
+            self.differences += 1;
+            if self.differences <= 20 {
+                let Input { words, len, polarity, choice, summary, inventory, spill } = input;
+                let case = Case { words, len: *len, polarity: *polarity, choice: *choice };
+                let first =
+                    |cells: &[u64]| cells.iter().take(12).map(|c| format!("{c:#x}")).collect::<Vec<_>>().join(", ");
+                println!("DIFFERENCE: {call}: ours {:.300}, model {:.300}", format!("{ours:?}"), format!("{model:?}"));
+                println!("  {case}\n  {summary:?}");
+                println!("  inventory of {}: {}", inventory.len(), first(inventory));
+                println!("  spill of {}: {}", spill.len(), first(spill));
+            }
+        }
+    }
+}
+
+/// At least `calls` calls of jump, hint, store, dwell and check; the number of differences.
+pub fn run(calls: u64) -> u64 {
+    let started = Instant::now();
+    let random = Random::new(2);
+    let bases = bases(&random);
+    let mut tally = Tally::default();
+    let mut input = bases[0].clone();
+    let mut rounds = 0u64;
+    let mut others = 0;
+    while tally.calls - others < calls {
+        let base = &bases[random.below(bases.len() as u64) as usize];
+        input.clone_from(base);
+        if random.one_in(6) {
+            foreign(&random, &mut input);
+        }
+        let damages = random.pick(&[0, 1, 1, 1, 1, 2, 2, 3, 5]);
+        for _ in 0..damages {
+            let other = &bases[random.below(bases.len() as u64) as usize];
+            damage(&random, &mut input, other);
+        }
+        read_calls(&mut tally, &random, &input);
+        if rounds.is_multiple_of(4) {
+            let before = tally.calls;
+            build_calls(&mut tally, &random, &input);
+            others += tally.calls - before;
+        }
+        rounds += 1;
+    }
+    let (good, reads, seconds) = (bases.len(), tally.calls - others, started.elapsed().as_secs_f64());
+    println!("damage: {good} indexes, {rounds} damaged copies, {reads} calls of jump, hint, store, dwell and check,");
+    println!("  {others} of count, plan, size and build, {seconds:.1} s; how each call came out:");
+    for (call, outcomes) in &tally.outcomes {
+        let said = |(k, n): (&u32, &u64)| if *k == 0 { format!("answered {n}") } else { format!("{k}: {n}") };
+        println!("  {call}: {}", outcomes.iter().map(said).collect::<Vec<_>>().join(", "));
+    }
+    println!("differences: {}", tally.differences);
+    tally.differences
+}
+
+/// Good indexes to damage, with room past the counts: by the model, which compare holds against the Rust.
+fn bases(random: &Random) -> Vec<Input> {
+    let mut all = Vec::new();
+    let mut add = |random: &Random, words: Vec<u64>, len: u64, polarity: u32, choice: Choice| {
+        let built = model::built(&words, len, polarity, &choice, usize::MAX, usize::MAX).expect("a lawful choice");
+        let (mut inventory, mut spill) = (built.inventory, built.spill);
+        inventory.extend((0..random.below(4)).map(|_| random.next()));
+        spill.extend((0..random.below(4)).map(|_| random.next()));
+        all.push(Input { words, len, polarity, choice, summary: built.summary, inventory, spill });
+    };
+    for choice in [default(), power(1, 0), power(0, 3), fixed(1, 1), fixed(2, 3), span(5, 2), overhead(100.0, 3)] {
+        for polarity in [ONES, 1] {
+            add(random, vec![0x252], 10, polarity, choice);
+            add(random, vec![], 0, polarity, choice);
+            add(random, vec![random.next(), random.next()], 128, polarity, choice);
+        }
+    }
+    for _ in 0..40 {
+        let len = 1 + random.below(3000);
+        let words = random_words(random, len.div_ceil(64) as usize + random.below(3) as usize);
+        let (polarity, choice) = (random.below(2) as u32, random_choice(random));
+        add(random, words, len, polarity, choice);
+    }
+    // U32 entries, with spill and without.
+    for _ in 0..40 {
+        let (l, m) = (random.below(9), random.below(4) as u32);
+        let wide = 65_537 + random.below(80_000);
+        let narrow = (1 << l) + random.below(600);
+        let (a, b, last) = (random.pick(&[wide, narrow]), random.pick(&[wide, 70_000]), 1 + random.below(1 << l));
+        let (positions, len) = exact_spans(random, 1 << l, &[a, b, narrow], last);
+        let (polarity, extra) = (random.below(2) as u32, random.below(2) as usize);
+        let words = record(&positions, len, polarity, extra, || random.next());
+        add(random, words, len, polarity, if random.one_in(2) { power(l, m) } else { fixed(l, m) });
+    }
+    all
+}
+
+/// Summary and cells that no build wrote, but that obey the rules of refusal 9: random tags, U64 entries among them,
+/// with starts, second cells and offsets that often lead to an answer.
+fn foreign(random: &Random, input: &mut Input) {
+    let (l, m) = (random.below(8), random.below(5));
+    let n = random.below(input.len.min(2000) + 1);
+    let step = (1 << m) + 1;
+    let entries = n.div_ceil(1 << l);
+    let spill = random.below(60);
+    let len = input.len;
+    let s = l.saturating_sub(m + 2);
+    input.summary = Summary { polarity: random.below(2), len, n, l, m, s, inventory: entries * step + 1, spill };
+    let close = || random.below(len / 8 + 2);
+    let cell = || match random.below(4) {
+        0 => random.below(len + 2),
+        1 => (0..4).fold(0, |cell, _| (cell << 16) + close() % (1 << 16)),
+        2 => (0..2).fold(0, |cell, _| (cell << 32) + close() % (1 << 32)),
+        _ => (0..4).fold(0, |cell, _| (cell << 16) + random.below(300)),
+    };
+    input.inventory = (0..entries * step + 1).map(|_| cell()).collect();
+    input.spill = (0..spill).map(|_| cell()).collect();
+    // From the back, so that an entry may still move the next one's start and make its own U32 span lawful.
+    for e in (0..entries).rev() {
+        let at = (e * step) as usize;
+        let start = close() + if random.one_in(3) { random.below(len + 1) } else { 0 };
+        let tag = random.pick(&[0, 0, 2, 2, 3, 3]);
+        input.inventory[at] = tag << 62 | start;
+        if tag != 0 {
+            input.inventory[at + 1] = random.below(spill + 2);
+        }
+        if tag == 2 && random.one_in(2) {
+            let next = &mut input.inventory[at + step as usize];
+            let span = random.pick(&[65_536, 65_537, 131_071, 131_072, 1 << 32, 1 << 40]);
+            *next = *next & TAG | (start + span);
+        }
+    }
+}
+
+/// A number near one that matters.
+fn near(random: &Random, input: &Input) -> u64 {
+    let limits = [0, 1, 63, 64, 53, 54, 65_536, 65_537, 1 << 32, 1 << 62, 1 << 63, random.next()];
+    let Summary { len, n, inventory, spill, .. } = input.summary;
+    let centre =
+        if random.one_in(2) { random.pick(&limits) } else { random.pick(&[input.len, len, n, inventory, spill]) };
+    centre.wrapping_add(random.below(5)).wrapping_sub(2)
+}
+
+fn damage(random: &Random, input: &mut Input, other: &Input) {
+    let step = (1u64 << input.summary.m.min(10)) + 1;
+    let entry = (random.below(input.inventory.len() as u64 / step + 1) * step) as usize;
+    let value = near(random, input);
+    let any = |random: &Random, cells: &[u64]| random.below(cells.len() as u64) as usize;
+    match random.below(20) {
+        // Flipped bits.
+        0 | 1 => {
+            let cells = if random.one_in(3) { &mut input.spill } else { &mut input.inventory };
+            for _ in 0..1 + random.below(3) {
+                let i = any(random, cells);
+                if let Some(cell) = cells.get_mut(i) {
+                    *cell ^= 1 << random.below(64);
+                }
+            }
+        }
+        // Swapped cells.
+        2 if !input.inventory.is_empty() => {
+            let (i, j) = (any(random, &input.inventory), any(random, &input.inventory));
+            input.inventory.swap(i, j);
+        }
+        3 if !input.spill.is_empty() && !input.inventory.is_empty() => {
+            let (i, j) = (any(random, &input.inventory), any(random, &input.spill));
+            std::mem::swap(&mut input.inventory[i], &mut input.spill[j]);
+        }
+        // One field of the summary; 2^32 more shows a field that is cut to 32 bits.
+        4 | 5 => {
+            let mut fields: [u64; 8] = input.summary.into();
+            let field = &mut fields[random.below(8) as usize];
+            *field = match random.below(5) {
+                0 => field.wrapping_add(1),
+                1 => field.wrapping_sub(1),
+                2 => field.wrapping_add(1 << 32),
+                3 => random.below(70),
+                _ => value,
+            };
+            input.summary = fields.into();
+        }
+        // The polarity alone.
+        6 => input.summary.polarity ^= 1,
+        // Tags.
+        7 | 8 => {
+            if let Some(cell) = input.inventory.get_mut(entry) {
+                *cell = *cell & !TAG | random.below(4) << 62;
+            }
+        }
+        // Second cells, those near 2^64 among them.
+        9 => {
+            if let Some(cell) = input.inventory.get_mut(entry + 1) {
+                *cell = random.pick(&[
+                    value,
+                    u64::MAX - random.below(9),
+                    random.below(input.summary.spill.saturating_add(3)),
+                ]);
+            }
+        }
+        // Spans: the entry's or the next start.
+        10 | 11 => {
+            let start = input.inventory.get(entry).map_or(0, |c| c & !TAG);
+            if let Some(next) = input.inventory.get_mut(entry + step as usize) {
+                let span =
+                    random.pick(&[0, 32_767, 65_535, 65_536, 65_537, 131_071, 131_072, 1 << 32, 1 << 33, 1 << 61]);
+                *next = *next & TAG | start.wrapping_add(span) & !TAG;
+            }
+        }
+        // A cell with a value that matters.
+        12 => {
+            let cells = if random.one_in(3) { &mut input.spill } else { &mut input.inventory };
+            let i = any(random, cells);
+            if let Some(cell) = cells.get_mut(i) {
+                *cell = value;
+            }
+        }
+        // Lengths.
+        13 => {
+            let len = input.len;
+            input.summary.len = random.pick(&[value, len.wrapping_sub(1), len.wrapping_add(1), random.below(len)]);
+        }
+        14 => input.len = random.pick(&[value, input.len.wrapping_sub(1), input.len.wrapping_add(1)]),
+        // Buffers cut short.
+        15 => {
+            let most = input.summary.inventory.saturating_sub(random.below(2));
+            input.inventory.truncate(random.pick(&[random.below(4), most]) as usize);
+        }
+        16 => match random.below(2) {
+            0 => input.spill.truncate(random.pick(&[0, input.summary.spill.saturating_sub(random.below(2))]) as usize),
+            _ => input.words.truncate(random.below(input.words.len() as u64 + 1) as usize),
+        },
+        // A foreign summary, as it is or made lawful for these cells by another N.
+        17 => input.summary = if random.one_in(2) { other.summary } else { lawful(random, input) },
+        // The record changed under its index.
+        18 => {
+            let i = any(random, &input.words);
+            if let Some(word) = input.words.get_mut(i) {
+                *word ^= random.pick(&[1 << (value % 64), u64::MAX, value]);
+            }
+        }
+        // Another choice, one past the limits, another polarity; a count of cells that wraps to one that fits.
+        _ => match random.below(5) {
+            0 => input.choice = other.choice,
+            1 => input.choice = Choice { kind: input.choice.kind, ..unlawful(random, value) },
+            2 => input.choice = unlawful(random, value),
+            3 => input.polarity = random.pick(&[0, 1, 1 - input.polarity.min(1), 2]),
+            _ => {
+                input.inventory.resize(2100, value);
+                let (n, m) = (2048, 53);
+                input.summary = Summary { n, l: 0, m, s: 0, inventory: 2049, ..input.summary };
+            }
+        },
+    }
+}
+
+/// A choice with one number or several at or past a limit.
+fn unlawful(random: &Random, value: u64) -> Choice {
+    random.pick(&[
+        span(value, 54),
+        power(value, 53),
+        power(64, 54),
+        overhead(f64::NAN, 54),
+        overhead(0.0, 3),
+        overhead(f64::INFINITY, 53),
+        fixed(64, 54),
+        fixed(0, 53),
+        Choice { kind: 5, ..fixed(64, 54) },
+    ])
+}
+
+/// A summary within the rules of refusal 9 whose cells are these, read with another N, L and M.
+fn lawful(random: &Random, input: &Input) -> Summary {
+    let (l, m) = (random.below(12), random.below(5));
+    let entries = (input.inventory.len() as u64).saturating_sub(1) / ((1 << m) + 1);
+    let entries = random.below(entries + 1);
+    let n = (entries << l).saturating_sub(random.below(1 << l)).min(input.summary.len);
+    let inventory = n.div_ceil(1 << l) * ((1 << m) + 1) + 1;
+    let spill = random.below(input.spill.len() as u64 + 1);
+    Summary { n, l, m, s: l.saturating_sub(m + 2), inventory, spill, ..input.summary }
+}
+
+fn rank(random: &Random, n: u64) -> u64 {
+    match random.below(16) {
+        0 => n,
+        1 => n.wrapping_add(random.below(3)),
+        2 => n.wrapping_sub(1),
+        3 => random.next(),
+        4 => 0,
+        _ => random.below(n),
+    }
+}
+
+fn read_calls(tally: &mut Tally, random: &Random, input: &Input) {
+    let Input { words, len, polarity, choice, summary, inventory, spill } = input;
+    let ours = ffi::Index { words, summary, inventory, spill };
+    let model = model::Index { words, summary, inventory, spill };
+    for _ in 0..3 {
+        let r = rank(random, summary.n);
+        tally.equal("jump", input, ours.select(r), model.select(r));
+        tally.equal("hint", input, ours.hint(r), model.hint(r));
+        let store = model.store(r);
+        let call = if store.is_ok_and(|part| part.0 == 2) { "store, of the spill" } else { "store" };
+        tally.equal(call, input, ours.store(r), store);
+        let (mut a, mut b) = (r, rank(random, summary.n));
+        if a > b && !random.one_in(4) {
+            (a, b) = (b, a);
+        }
+        tally.equal("dwell", input, ours.dwell(a, b), model.dwell(a, b));
+    }
+    let record = ffi::Record { words, len: *len, polarity: *polarity };
+    let model = model::check(words, *len, *polarity, choice, summary, inventory, spill);
+    let call = if model == Ok(true) { "check, yes" } else { "check" };
+    tally.equal(call, input, record.check(choice, summary, inventory, spill), model);
+}
+
+/// The build over the damaged buffers: its cells, those past the counts, and all of them on a refusal.
+fn build_calls(tally: &mut Tally, random: &Random, input: &Input) {
+    let Input { words, len, polarity, inventory, spill, .. } = input;
+    let choice = &if random.one_in(4) { unlawful(random, near(random, input)) } else { input.choice };
+    let record = ffi::Record { words, len: *len, polarity: *polarity };
+    tally.equal("count", input, record.count(), model::count(words, *len, *polarity));
+    tally.equal("plan", input, record.plan(choice), model::plan(words, *len, *polarity, choice));
+    tally.equal("size", input, record.size(choice), model::size(words, *len, *polarity, choice));
+
+    let (mut inv, mut spl) = (inventory.clone(), spill.clone());
+    let ours = record.build(choice, &mut inv, &mut spl).map(|summary| (summary, inv.clone(), spl.clone()));
+    let model = model::built(words, *len, *polarity, choice, inventory.len(), spill.len()).map(|built| {
+        let past = &inventory[built.inventory.len()..];
+        let past_spill = &spill[built.spill.len()..];
+        (built.summary, [&built.inventory, past].concat(), [&built.spill, past_spill].concat())
+    });
+    let refused = model.is_err();
+    tally.equal("build", input, ours, model);
+    if refused {
+        let kept = inv == *inventory && spl == *spill;
+        tally.equal("build, cells kept on a refusal", input, Ok(kept), Ok(true));
+    }
+}
