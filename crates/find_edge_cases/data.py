@@ -1,0 +1,63 @@
+# Writes stdin and data/: document 01's record A in 16 samples, record C in 65,544, D with two entries that spill, and
+# the command lines, one to a line, a double space standing for an empty argument.
+def write(name, samples, edges):
+    bits = bytearray(samples // 8)
+    for p in edges:
+        bits[p // 8] |= 1 << (p % 8)
+    open(name, "wb").write(bits)
+
+
+write("stdin", 16, [1, 4, 6, 9])
+write("data/a.bin", 16, [1, 4, 6, 9])
+write("data/c.bin", 65544, [0, 65539])
+write("data/d.bin", 131080, [0, 65539, 65540, 131079])
+
+CASES = """
+
+-
+a.bin
+a.bin 0 1 2 3
+a.bin 1 1
+a.bin --samples 10
+a.bin --samples 0
+--zeros --samples 10 a.bin 0 5
+a.bin --span 8
+a.bin --power 1
+a.bin --power 1 3
+a.bin --overhead 12.5
+c.bin --zeros
+c.bin --zeros --overhead 1000 65541
+c.bin --zeros --overhead 14.062
+c.bin --zeros --overhead 14.063
+c.bin --power 1
+c.bin --power 1 1
+nosuch.bin
+a.bin/b
+.
+/dev/zero
+a.bin 4x
+a.bin -1
+a.bin  1
+a.bin 18446744073709551615
+a.bin 18446744073709551616
+a.bin 4x18446744073709551616
+a.bin --span many
+a.bin --samples 99999999999999999999
+a.bin --overhead 10%
+a.bin --overhead 1.
+a.bin --overhead .5
+a.bin --overhead 1.2345
+a.bin --overhead 1.2.3
+a.bin --overhead 1000000000
+a.bin --samples
+a.bin --speed
+a.bin --samples 17
+a.bin 3 4
+a.bin --power 64
+a.bin --overhead 0
+c.bin --zeros --power 0
+d.bin --power 1
+a.bin 2 1
+"""
+many = "-" + " 0" * 1025 + "\n"
+open("data/cases", "w").write(CASES[1:] + many)

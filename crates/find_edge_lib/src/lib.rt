@@ -1,0 +1,282 @@
+// What the program find_edge does, on arguments and buffers that its caller lends.
+ghost use Prim.Native.Nat.{_<_};
+
+mod arguments;
+mod capture;
+mod report;
+
+use arguments::Asked;
+use arguments::Gathered;
+use arguments::MOST_EDGES;
+use arguments::Request;
+use arguments::gather;
+use arguments::parse_arguments;
+use capture::Capture;
+use capture::read_capture;
+use edge_index::Answer;
+use edge_index::Built;
+use edge_index::Checked;
+use edge_index::Choice;
+use edge_index::Polarity;
+use edge_index::Summary;
+use edge_index::build;
+use edge_index::check as check_index;
+use edge_index::dwell;
+use edge_index::select;
+use libc::STDERR_FILENO;
+use libc::STDOUT_FILENO;
+pub use report::refused;
+
+// The line of one edge; false where there is none, and the error line is written.
+fn show_edge(
+    words: &[u64],
+    summary: Summary,
+    inventory: &[u64],
+    spill: &[u64],
+    rank: u64,
+    out: i32,
+    err: i32,
+) -> bool {
+    let plan = summary.plan;
+    let polarity = plan.polarity;
+    match select(words, summary, inventory, spill, rank) {
+        Answer::Value(sample) => {
+            report::edge_line(out, polarity, rank, sample);
+            true
+        }
+        Answer::Refused(refusal) => {
+            if rank >= plan.num {
+                report::no_such_edge(err, rank, plan.num);
+                return false;
+            }
+            refused(err, refusal);
+            false
+        }
+    }
+}
+
+fn show_period(
+    words: &[u64],
+    summary: Summary,
+    inventory: &[u64],
+    spill: &[u64],
+    a: u64,
+    b: u64,
+    out: i32,
+    err: i32,
+) -> bool {
+    match dwell(words, summary, inventory, spill, a, b) {
+        Answer::Value(samples) => {
+            report::period_line(out, samples);
+            true
+        }
+        Answer::Refused(refusal) => {
+            refused(err, refusal);
+            false
+        }
+    }
+}
+
+// Edge number i of those asked for, and the period from the one before it.
+fn show_next(
+    words: &[u64],
+    summary: Summary,
+    inventory: &[u64],
+    spill: &[u64],
+    edges: &[u64; MOST_EDGES],
+    i: usize,
+    out: i32,
+    err: i32,
+) -> bool
+    requires { ⌜ i < 1024 ⌝ }
+{
+    let rank = edges[i];
+    if !show_edge(words, summary, inventory, spill, rank, out, err) {
+        return false;
+    }
+    if i == 0 {
+        return true;
+    }
+    show_period(
+        words,
+        summary,
+        inventory,
+        spill,
+        edges[i - 1],
+        rank,
+        out,
+        err,
+    )
+}
+
+fn show_edges(
+    words: &[u64],
+    summary: Summary,
+    inventory: &[u64],
+    spill: &[u64],
+    edges: &[u64; MOST_EDGES],
+    n: usize,
+    out: i32,
+    err: i32,
+) {
+    let mut i = 0;
+    while i < MOST_EDGES {
+        if i >= n {
+            return;
+        }
+        if !show_next(words, summary, inventory, spill, edges, i, out, err) {
+            return;
+        }
+        i += 1;
+    }
+}
+
+// The count, then the edges asked for, or what the index is like.
+fn show(
+    words: &[u64],
+    summary: Summary,
+    inventory: &[u64],
+    spill: &[u64],
+    edges: &[u64; MOST_EDGES],
+    n: usize,
+    out: i32,
+    err: i32,
+) {
+    let plan = summary.plan;
+    let polarity = plan.polarity;
+    report::count_line(out, polarity, plan.num);
+    if n > 0 {
+        show_edges(words, summary, inventory, spill, edges, n, out, err);
+        return;
+    }
+    report::spacing_line(out, plan);
+    report::cells_line(out, summary.inventory_len, summary.spill_len);
+}
+
+// No jump before the check says yes.
+fn answer(
+    words: &[u64],
+    len: u64,
+    polarity: Polarity,
+    choice: Choice,
+    inventory: &mut [u64],
+    spill: &mut [u64],
+    edges: &[u64; MOST_EDGES],
+    n: usize,
+    out: i32,
+    err: i32,
+) {
+    match build(words, len, polarity, choice, inventory, spill) {
+        Built::Refused(refusal) => refused(err, refusal),
+        Built::Summary(summary) => {
+            match check_index(words, len, polarity, choice, summary, inventory, spill) {
+                Checked::Yes => show(words, summary, inventory, spill, edges, n, out, err),
+                Checked::No => report::not_checked(err),
+                Checked::Refused(refusal) => refused(err, refusal),
+            }
+        }
+    }
+}
+
+fn polarity_of(is_zeros: bool) -> Polarity {
+    if is_zeros {
+        return Polarity::Zeros;
+    }
+    Polarity::Ones
+}
+
+// The samples asked for, or all of them.
+fn samples_of(has_samples: bool, samples: u64, all: u64) -> u64 {
+    if has_samples {
+        return samples;
+    }
+    all
+}
+
+fn answer_request(
+    request: Request,
+    words: &[u64],
+    all: u64,
+    inventory: &mut [u64],
+    spill: &mut [u64],
+    edges: &[u64; MOST_EDGES],
+    out: i32,
+    err: i32,
+) {
+    let len = samples_of(request.has_samples, request.samples, all);
+    if len > all {
+        report::too_many_samples(err, len, all);
+        return;
+    }
+    let polarity = polarity_of(request.is_zeros);
+    let choice = request.choice;
+    answer(
+        words,
+        len,
+        polarity,
+        choice,
+        inventory,
+        spill,
+        edges,
+        request.edges,
+        out,
+        err,
+    )
+}
+
+fn run_request(
+    request: Request,
+    words: &mut [u64],
+    inventory: &mut [u64],
+    spill: &mut [u64],
+    edges: &[u64; MOST_EDGES],
+    out: i32,
+    err: i32,
+) {
+    match read_capture(request.fd, words) {
+        Capture::TooLong => report::too_long(err, words.len()),
+        Capture::Failed => report::not_read(err),
+        Capture::Samples(all) => answer_request(
+            request,
+            words,
+            all,
+            inventory,
+            spill,
+            edges,
+            out,
+            err,
+        ),
+    }
+}
+
+// The program: arguments that end in a zero byte each, buffers, and where lines and error lines go.
+pub fn find_edge(
+    args: &[u8],
+    words: &mut [u64],
+    inventory: &mut [u64],
+    spill: &mut [u64],
+    out: i32,
+    err: i32,
+) {
+    let mut edges = [0u64; MOST_EDGES];
+    match parse_arguments(args, &mut edges, err) {
+        Asked::Request(request) => run_request(request, words, inventory, spill, &edges, out, err),
+        Asked::Stop => {}
+    }
+}
+
+// The same on the arguments that the program was started with.
+pub fn run(words: &mut [u64], inventory: &mut [u64], spill: &mut [u64]) {
+    let mut args = io::large_buffer();
+    match gather(&mut args) {
+        Gathered::Full => report::too_many_arguments(STDERR_FILENO),
+        Gathered::Bytes(n) => find_edge(
+            &args[..n],
+            words,
+            inventory,
+            spill,
+            STDOUT_FILENO,
+            STDERR_FILENO,
+        ),
+    }
+}
