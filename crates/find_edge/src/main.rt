@@ -1,8 +1,9 @@
 // Finds edges in a capture of a logic signal: see find_edge_lib, which does the work. The buffers are here: a record of
-// 2^25 samples, and cells for its index; together with the rest they fit a stack of 8 MB.
+// 2^25 samples, and what its index takes at most at the default spacing: 16,384 entries of 9 cells and the closing one, and
+// a spilled cell for each 1,024 samples. They fit a stack of 8 MB.
 fn main() {
     let mut words = [0u64; 524288];
-    let mut inventory = [0u64; 131072];
-    let mut spill = [0u64; 65536];
+    let mut inventory = [0u64; 147457];
+    let mut spill = [0u64; 32768];
     find_edge_lib::run(&mut words, &mut inventory, &mut spill);
 }
