@@ -1,12 +1,13 @@
 -- What a record's words hold, and its count.
-use mathlib.Core.Path.{_≡_, refl, sym, _∙_}
+use mathlib.Core.Path.{_≡_, refl, sym, ap, _∙_}
 use mathlib.Core.Logic.{⊎-elim}
 use mathlib.Core.Bool.{true, false, cond}
 use mathlib.Core.List.{List}
 use Prim.Native.Nat.{ℕ, _+_, _-_, _*_, _/_, _%_, _^_, _≤_, _<_}
-use native.Mathlib.Nat.{mod-lt, mod-eq-of-lt, lt-of-lt-of-le}
+use native.Mathlib.Nat.{add-zero, mod-lt, mod-eq-of-lt, lt-of-lt-of-le}
 use native.Mathlib.Omega.{arith}
 use lib.Bits.{bitAnd, and-mask}
+use lib.Count.{ones}
 use lib.Dec.{leb}
 use lib.ListN.{getD}
 use lib.Pow.{pow-pos, pow-mono}
@@ -17,9 +18,10 @@ use Rattle.rank_sel.proofs.Rank.{rank-flat, rank-le}
 use Rattle.select_in_word.specs.Bit.{bit}
 use Rattle.select_in_word.specs.Holds.{Holds}
 use Rattle.select_in_word.specs.Tail.{tailMask}
+use Rattle.select_in_word.proofs.Holds.{holds-ones}
 use Rattle.select_in_word.proofs.Tail.{and-tail}
 use Rattle.select_in_word.proofs.Bit.{bit-not, bit-low, bit-past}
-use Rattle.bit_record.specs.Record.{bitAt, chosen, selected, numSelected, complemented}
+use Rattle.bit_record.specs.Record.{bitAt, chosen, selected, numSelected, complemented, CountsWords}
 use Rattle.bit_record.specs.declared.Polarity.{Polarity}
 use Rattle.bit_record.specs.declared.Polarity.the-variants.{Ones, Zeros}
 
@@ -91,6 +93,21 @@ holds-word pol ws len i h k = ⊎-elim
 pub rank-num : (pol : Polarity) (ws : List ℕ) (len p : ℕ) → len ≤ p → rank (selected pol ws len) p ≡ numSelected pol ws len
 unfolding numSelected
 rank-num pol ws len p h = rank-flat (selected pol ws len) len p h (selected-out pol ws len)
+
+pub words-none : (pol : Polarity) (ws : List ℕ) (i : ℕ) → CountsWords pol ws i 0 0
+words-none pol ws i = record { exact = λ len l. add-zero (rank (selected pol ws len) (64 * i)) ∙ ap (rank (selected pol ws len)) (omega arith) }
+
+-- one word more
+pub words-more : (pol : Polarity) (ws : List ℕ) (i m n : ℕ) → CountsWords pol ws i m n → getD ws (i + m) 0 < 2 ^ 64
+    → CountsWords pol ws i (m + 1) (n + ones (complemented pol (getD ws (i + m) 0)))
+words-more pol ws i m n v h = record {
+  exact = λ len l.
+      let e : rank (selected pol ws len) (64 * (i + (m + 1))) ≡ rank (selected pol ws len) (64 * (i + m) + 64) = ap (rank (selected pol ws len)) (omega arith) in
+      omega (arith, v .exact len (omega arith), holds-ones 64 (selected pol ws len) (64 * (i + m)) (complemented pol (getD ws (i + m) 0)) (holds-full pol ws len (i + m) h (omega arith)));
+}
+
+pub words-most : (pol : Polarity) (ws : List ℕ) (i m n : ℕ) → CountsWords pol ws i m n → n ≤ 64 * (i + m)
+words-most pol ws i m n v = omega (arith, v .exact (64 * (i + m)) (omega arith), rank-le (selected pol ws (64 * (i + m))) (64 * (i + m)))
 
 pub num-le : (pol : Polarity) (ws : List ℕ) (len : ℕ) → numSelected pol ws len ≤ len
 unfolding numSelected

@@ -3,7 +3,7 @@ use mathlib.Core.Bool.{Bool, not, _&&_}
 use mathlib.Core.List.{List}
 use mathlib.Core.Option.{Option, none, some}
 use mathlib.Core.Path.{_≡_}
-use Prim.Native.Nat.{ℕ, _-_, _/_, _%_, _^_, _≤_, _<_}
+use Prim.Native.Nat.{ℕ, _+_, _-_, _*_, _/_, _%_, _^_, _≤_, _<_}
 use lib.Dec.{ltb}
 use lib.ListN.{length, getD}
 use Rattle.rank_sel.specs.Numbers.{ceilDiv}
@@ -49,6 +49,10 @@ found Place·v.Nowhere = none
 pub record Admitted (ws : List ℕ) (len : ℕ) : Type 0 where
   pub short : len < 2 ^ 62
   pub held : ceilDiv len 64 ≤ length ws
+
+-- n is the count of the m words from number i on, in every record that has them whole
+pub record CountsWords (pol : Polarity) (ws : List ℕ) (i m n : ℕ) : Type 0 where
+  pub exact : (len : ℕ) → 64 * (i + m) ≤ len → rank (selected pol ws len) (64 * i) + n ≡ rank (selected pol ws len) (64 * (i + m))
 
 -- two lists of words that hold the same record: they may differ at or past len
 pub record SameRecord (len : ℕ) (ws vs : List ℕ) : Type 0 where

@@ -1,17 +1,18 @@
 // One record: lent words of which the first `len` bits count, and a polarity that says which of these are selected.
 ghost use mathlib.Core.Path.{_≡_};
-ghost use Prim.Native.Nat.{_+_, _-_, _*_, _<_};
+ghost use Prim.Native.Nat.{_+_, _-_, _*_, _^_, _≤_, _<_};
 ghost use lib.ListN.{length};
 ghost use Rattle.rank_sel.specs.Outcome.{answered};
 ghost use Rattle.rank_sel.specs.Seek.{seek};
 ghost use Rattle.select_in_word.specs.Holds.{Holds};
-ghost use Rattle.bit_record.specs.Record.{Admitted, complemented, countOf, found, selected};
+ghost use Rattle.bit_record.specs.Record.{Admitted, CountsWords, complemented, countOf, found, selected};
 use rank_sel::Answer;
 use rank_sel::Refusal;
-use select_in_word::InWord;
+use select_in_word::WordSeek;
 use select_in_word::count_ones;
+use select_in_word::low_bits;
 use select_in_word::mask_tail_word;
-use select_in_word::select_in_word_by_halves;
+use select_in_word::seek_in_word;
 use select_in_word::tail_mask;
 
 pub enum Polarity {
@@ -44,6 +45,20 @@ fn selected_word(words: &[u64], i: usize, len: u64, polarity: Polarity) -> u64
     mask_tail_word(word, is_last, tail_mask(len % 64))
 }
 
+// How many bits of the n words from number `first` on are selected, all of them below the record's length.
+fn count_words(words: &[u64], first: usize, n: usize, polarity: Polarity) -> u64
+    requires { ⌜ (first + n ≤ length (now words)) × (64 * (first + n) < 2 ^ 62) ⌝ }
+    ensures { λ r. ⌜ CountsWords polarity (now (words .entry)) first n r ⌝ }
+{
+    let mut total: u64 = 0;
+    let mut i: usize = 0;
+    while i < n {
+        total += count_ones(complement_zeros(words[first + i], polarity));
+        i += 1;
+    }
+    total
+}
+
 // How many bits of the record are selected.
 pub fn count(words: &[u64], len: u64, polarity: Polarity) -> Answer
     ensures { λ r. ⌜ answered r ≡ countOf (now (words .entry)) len polarity ⌝ }
@@ -51,21 +66,19 @@ pub fn count(words: &[u64], len: u64, polarity: Polarity) -> Answer
     if len > 0x3fff_ffff_ffff_ffff {
         return Answer::Refused(Refusal::LenTooLarge);
     }
-    let n = ((len + 63) / 64) as usize;
-    if words.len() < n {
+    if (words.len() as u64) < (len + 63) / 64 {
         return Answer::Refused(Refusal::TooFewWords);
     }
-    let mut total: u64 = 0;
-    let mut i: usize = 0;
-    while i < n {
-        total += count_ones(selected_word(words, i, len, polarity));
-        i += 1;
+    let full = (len / 64) as usize;
+    let total = count_words(words, 0, full, polarity);
+    if len % 64 == 0 {
+        return Answer::Value(total);
     }
-    Answer::Value(total)
+    Answer::Value(total + count_ones(selected_word(words, full, len, polarity)))
 }
 
 // The selected position at or after `from` with exactly `k` selected between, `from` included. Every reading of
-// the record's bits beyond the count goes through here: one count of ones for each word, in-word select in the last.
+// the record's bits beyond the count goes through here, word by word.
 pub fn seek_from(words: &[u64], len: u64, polarity: Polarity, from: u64, k: u64) -> Place
     requires { ⌜ Admitted (now words) len ⌝ }
     ensures { λ r. ⌜ found r ≡ seek (selected polarity (now (words .entry)) len) (len - from) from k ⌝ }
@@ -75,15 +88,39 @@ pub fn seek_from(words: &[u64], len: u64, polarity: Polarity, from: u64, k: u64)
     while at < len {
         let shift = at % 64;
         let word = selected_word(words, (at / 64) as usize, len, polarity) >> shift;
-        let ones = count_ones(word);
-        if remaining < ones {
-            return match select_in_word_by_halves(word, remaining) {
-                InWord::At(p) => Place::At(at + p),
-                InWord::Refused(_) => Place::Nowhere,
-            };
+        match seek_in_word(word, remaining) {
+            WordSeek::At(p) => return Place::At(at + p),
+            WordSeek::Past(ones) => {
+                remaining -= ones;
+                at += 64 - shift;
+            }
         }
-        remaining -= ones;
-        at += 64 - shift;
     }
     Place::Nowhere
+}
+
+// The words that `seek_far` counts at a time.
+const BLOCK: usize = 8;
+
+// The same for a position that is likely far off: blocks that end before it are counted whole.
+pub fn seek_far(words: &[u64], len: u64, polarity: Polarity, from: u64, k: u64) -> Place
+    requires { ⌜ Admitted (now words) len × (k ≤ 2 ^ 63) ⌝ }
+    ensures { λ r. ⌜ found r ≡ seek (selected polarity (now (words .entry)) len) (len - from) from k ⌝ }
+{
+    if len <= from {
+        return Place::Nowhere;
+    }
+    let full = (len / 64) as usize;
+    let mut i = (from / 64) as usize;
+    let skipped = low_bits(selected_word(words, i, len, polarity), from % 64);
+    let mut remaining = k + count_ones(skipped);
+    while i + BLOCK <= full {
+        let ones = count_words(words, i, BLOCK, polarity);
+        if remaining < ones {
+            return seek_from(words, len, polarity, 64 * (i as u64), remaining);
+        }
+        remaining -= ones;
+        i += BLOCK;
+    }
+    seek_from(words, len, polarity, 64 * (i as u64), remaining)
 }

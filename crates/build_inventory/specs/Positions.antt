@@ -1,6 +1,6 @@
 -- The index of a record: the words come in by what they select alone.
 use mathlib.Core.List.{List}
-use mathlib.Core.Option.{Option·getD}
+use mathlib.Core.Option.{Option, Option·getD}
 use mathlib.Core.Path.{_≡_}
 use Prim.Native.Nat.{ℕ, _-_, _*_, _^_, _≤_, _<_, max}
 use lib.ListN.{length}
@@ -15,9 +15,13 @@ use Rattle.inventory.specs.declared.Entry.{Entry}
 abbrev pub posIn : List ℕ → Parameters → ℕ → ℕ
 posIn ws p = select (selected (p .polarity) ws (p .len)) (p .len)
 
--- k selected bits on from a position; past the last one, the end of the last span
+-- past the last selected bit, the end of the last span
+abbrev pub orEnd : Parameters → Option ℕ → ℕ
+orEnd p place = Option·getD place (max 1 (p .len))
+
+-- k selected bits on from a position
 abbrev pub seekOrEnd : List ℕ → Parameters → ℕ → ℕ → ℕ
-seekOrEnd ws p from k = Option·getD (seek (selected (p .polarity) ws (p .len)) (p .len - from) from k) (max 1 (p .len))
+seekOrEnd ws p from k = orEnd p (seek (selected (p .polarity) ws (p .len)) (p .len - from) from k)
 
 -- how many cells the index spills
 abbrev pub spillLenOf : List ℕ → Parameters → ℕ

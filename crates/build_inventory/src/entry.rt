@@ -2,12 +2,13 @@
 ghost use mathlib.Core.Path.{_≡_};
 ghost use Prim.Native.Nat.{_+_, _*_, _^_, _≤_, _<_};
 ghost use lib.ListN.{length};
-ghost use Rattle.bit_record.specs.Record.{Admitted};
+ghost use Rattle.bit_record.specs.Record.{found};
 ghost use Rattle.spacing.specs.Spacing.{L, M, N, PlanOf};
 ghost use Rattle.inventory.specs.Index.{bound, entryOf, lane, packed, startOf, stride};
-ghost use Rattle.build_inventory.specs.Positions.{EntryIn, posIn, seekOrEnd};
+ghost use Rattle.build_inventory.specs.Positions.{EntryIn, orEnd, posIn};
 ghost use Rattle.build_inventory.specs.Stream.{AtMark, Stepped, Wrote, WroteEntry, WroteOwn};
 use bit_record::Place;
+use bit_record::seek_far;
 use bit_record::seek_from;
 use inventory::Entry;
 use inventory::from_span;
@@ -31,13 +32,11 @@ pub struct Step {
     pub cursor: Cursor,
 }
 
-// The selected position with k others from `from` on before it, or the end of the last span.
-pub fn seek_or_end(words: &[u64], plan: Parameters, from: u64, k: u64) -> u64
-    requires { ⌜ Admitted (now words) (plan .len) ⌝ }
-    ensures { λ r. ⌜ r ≡ seekOrEnd (now (words .entry)) plan from k ⌝ }
+// A place, or the end of the last span where there is none.
+pub fn or_end(place: Place, plan: Parameters) -> u64
+    ensures { λ r. ⌜ r ≡ orEnd plan (found place) ⌝ }
 {
-    let polarity = plan.polarity;
-    match seek_from(words, plan.len, polarity, from, k) {
+    match place {
         Place::At(p) => p,
         Place::Nowhere => max(1, plan.len),
     }
@@ -48,7 +47,9 @@ fn next_start(words: &[u64], plan: Parameters, first: u64, start: u64) -> u64
     requires { ⌜ PlanOf (now words) plan × (first < N plan) × (start ≡ posIn (now words) plan first) ⌝ }
     ensures { λ r. ⌜ r ≡ bound (posIn (now (words .entry)) plan) plan (first + 2 ^ L plan) ⌝ }
 {
-    seek_or_end(words, plan, start, pow2(plan.log2_ones_per_inventory))
+    let polarity = plan.polarity;
+    let ones = pow2(plan.log2_ones_per_inventory);
+    or_end(seek_far(words, plan.len, polarity, start, ones), plan)
 }
 
 // Entry e, from where it starts.
@@ -99,7 +100,9 @@ fn next_lane(words: &[u64], plan: Parameters, x: Entry, c: Cursor) -> Step
             cursor: Cursor { at, k: next },
         };
     }
-    let mark = seek_or_end(words, plan, at, pow2(x.log2_quantum));
+    let polarity = plan.polarity;
+    let place = seek_from(words, plan.len, polarity, at, pow2(x.log2_quantum));
+    let mark = or_end(place, plan);
     Step {
         value,
         cursor: Cursor { at: mark, k: next },

@@ -15,8 +15,9 @@ use crate::entry::Cursor;
 use crate::entry::entry_at;
 use crate::entry::first_cursor;
 use crate::entry::next_cell;
-use crate::entry::seek_or_end;
+use crate::entry::or_end;
 use crate::entry::write_entry;
+use bit_record::seek_far;
 use inventory::Entry;
 use rank_sel::Answer;
 use rank_sel::Refusal;
@@ -61,7 +62,8 @@ fn first_start(words: &[u64], plan: Parameters) -> u64
     requires { ⌜ PlanOf (now words) plan ⌝ }
     ensures { λ r. ⌜ r ≡ startOf (posIn (now (words .entry)) plan) plan 0 ⌝ }
 {
-    seek_or_end(words, plan, 0, 0)
+    let polarity = plan.polarity;
+    or_end(seek_far(words, plan.len, polarity, 0, 0), plan)
 }
 
 // How many cells the index spills.

@@ -38,6 +38,10 @@ holds-shr m f base w s h = record {
   bits = λ j l. bit-shr w s j ∙ h .bits (s + j) (omega arith) ∙ ap f (omega arith);
 }
 
+-- the n low ones of the m positions that a word holds
+pub holds-less : (m : ℕ) (f : ℕ → Bool) (base w n : ℕ) → Holds m f base w → n ≤ m → Holds n f base (w % 2 ^ n)
+holds-less m f base w n h l = record { small = mod-lt w (pow-pos n); bits = λ j k. bit-low w n j k ∙ h .bits j (omega arith) }
+
 -- the m low bits of a number
 pub holds-low : (m w : ℕ) → Holds m (bit w) 0 (w % 2 ^ m)
 holds-low m w = record { small = mod-lt w (pow-pos m); bits = λ j l. bit-low w m j l ∙ ap (bit w) (omega arith) }

@@ -4,4 +4,8 @@ pub mod Tail
 pub mod Select
 pub mod Table
 pub mod Shift
-pub mod Halves
+pub mod Bytes
+pub mod ByteOnes
+pub mod Sums
+pub mod FirstAbove
+pub mod Broadword

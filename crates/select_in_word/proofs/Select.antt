@@ -1,4 +1,5 @@
 -- Laws of in-word select.
+use mathlib.Core.Logic.{inl, inr}
 use mathlib.Core.Option.{Option, none, some, Option·getD}
 use mathlib.Core.Path.{_≡_, refl, sym, ap, _∙_}
 use Prim.Native.Nat.{ℕ, _/_, _^_, _≤_, _<_}
@@ -12,7 +13,7 @@ use Rattle.rank_sel.proofs.Rank.{rank-zero}
 use Rattle.rank_sel.proofs.Seek.{seek-found, seek-none, seek-at, seek-empty, seek-some}
 use Rattle.select_in_word.specs.Bit.{bit}
 use Rattle.select_in_word.specs.Holds.{Holds}
-use Rattle.select_in_word.specs.Select.{selectInByte, selectInWord}
+use Rattle.select_in_word.specs.Select.{orOnes, seekInWord, selectInByte, selectInWord}
 use Rattle.select_in_word.proofs.Bit.{ones-rank}
 use Rattle.select_in_word.proofs.Holds.{holds-field}
 
@@ -43,15 +44,7 @@ pub word-refused : (w k : ℕ) → rank (bit w) 64 ≤ k → refused 8 ≡ selec
 unfolding selectInWord
 word-refused w k h = ap (orRefuse 8) (sym (seek-empty (bit w) 64 0 k (omega (arith, rank-zero (bit w)))))
 
--- and back: what an answer says
-pub word-found : (w k p : ℕ) → answer p ≡ selectInWord w k → Sought (bit w) 64 0 k p
-unfolding selectInWord
-word-found w k p e = go (seek (bit w) 64 0 k) refl
-  where
-    go : (r : Option ℕ) → seek (bit w) 64 0 k ≡ r → Sought (bit w) 64 0 k p
-    go (some q) h = let f : q ≡ p = cc in seek-found (bit w) 64 0 k p (h ∙ ap some f)
-    go none h = let z : _≡_ {A = ℕ} 0 1 = cc in absurd (omega arith)
-
+-- and back
 pub word-missing : (w k n : ℕ) → refused n ≡ selectInWord w k → rank (bit w) 64 ≤ k
 unfolding selectInWord
 word-missing w k n e = go (seek (bit w) 64 0 k) refl
@@ -59,3 +52,29 @@ word-missing w k n e = go (seek (bit w) 64 0 k) refl
     go : (r : Option ℕ) → seek (bit w) 64 0 k ≡ r → rank (bit w) 64 ≤ k
     go (some q) h = let z : _≡_ {A = ℕ} 0 1 = cc in absurd (omega arith)
     go none h = omega (arith, seek-none (bit w) 64 0 k h, rank-zero (bit w))
+
+-- the same with the count of ones in place of a refusal
+pub word-seek-at : (w k p : ℕ) → Sought (bit w) 64 0 k p → inl p ≡ seekInWord w k
+unfolding seekInWord
+word-seek-at w k p s = ap (orOnes w) (sym (seek-at (bit w) 64 0 k p s))
+
+pub word-seek-past : (w k n : ℕ) → w < 2 ^ 64 → n ≡ rank (bit w) 64 → n ≤ k → inr n ≡ seekInWord w k
+unfolding seekInWord
+word-seek-past w k n h e l =
+    ap inr (e ∙ sym (ones-rank 64 w h)) ∙ ap (orOnes w) (sym (seek-empty (bit w) 64 0 k (omega (arith, rank-zero (bit w)))))
+
+pub word-seek-found : (w k p : ℕ) → inl p ≡ seekInWord w k → Sought (bit w) 64 0 k p
+unfolding seekInWord
+word-seek-found w k p e = go (seek (bit w) 64 0 k) refl
+  where
+    go : (r : Option ℕ) → seek (bit w) 64 0 k ≡ r → Sought (bit w) 64 0 k p
+    go (some q) h = let f : q ≡ p = cc in seek-found (bit w) 64 0 k p (h ∙ ap some f)
+    go none h = let z : _≡_ {A = ℕ} 0 1 = cc in absurd (omega arith)
+
+pub word-seek-missing : (w k n : ℕ) → w < 2 ^ 64 → inr n ≡ seekInWord w k → (n ≡ ones w) × (ones w ≤ k)
+unfolding seekInWord
+word-seek-missing w k n l e = go (seek (bit w) 64 0 k) refl
+  where
+    go : (r : Option ℕ) → seek (bit w) 64 0 k ≡ r → (n ≡ ones w) × (ones w ≤ k)
+    go (some q) h = let z : _≡_ {A = ℕ} 0 1 = cc in absurd (omega arith)
+    go none h = let f : n ≡ ones w = cc in (f, omega (arith, ones-rank 64 w l, seek-none (bit w) 64 0 k h, rank-zero (bit w)))

@@ -1,4 +1,5 @@
 pub mod Bit
+pub mod Bytes
 pub mod Select
 pub mod Tail
 pub mod Holds

@@ -1,5 +1,6 @@
 -- In-word select. Document 01, "Inside one word".
-use mathlib.Core.Option.{Option·getD}
+use mathlib.Core.Logic.{_⊎_, inl, inr}
+use mathlib.Core.Option.{Option, none, some, Option·getD}
 use mathlib.Core.Path.{_≡_}
 use Prim.Native.Nat.{ℕ, _≤_}
 use lib.Count.{ones}
@@ -8,6 +9,8 @@ use Rattle.rank_sel.specs.Seek.{seek}
 use Rattle.select_in_word.specs.Bit.{bit}
 use Rattle.select_in_word.specs.declared.InWord.{InWord}
 use Rattle.select_in_word.specs.declared.InWord.the-variants.{At, Refused}
+use Rattle.select_in_word.specs.declared.WordSeek.{WordSeek}
+use Rattle.select_in_word.specs.declared.WordSeek.the-variants as W
 
 -- a word has n ones
 pub record Counts (w n : ℕ) : Type 0 where
@@ -25,3 +28,17 @@ selectInWord w k = orRefuse 8 (seek (bit w) 64 0 k)
 abbrev pub inWord : InWord → Outcome ℕ
 inWord (At p) = answer p
 inWord (Refused r) = refused (numberOf r)
+
+-- the ones of w where there is no position
+abbrev pub orOnes : ℕ → Option ℕ → ℕ ⊎ ℕ
+orOnes w none = inr (ones w)
+orOnes w (some p) = inl p
+
+-- the position of the one with exactly k ones below it, or the count of the word's ones where there is none
+unfoldable pub seekInWord : ℕ → ℕ → ℕ ⊎ ℕ
+seekInWord w k = orOnes w (seek (bit w) 64 0 k)
+
+-- what a WordSeek says: a position, or a count of ones
+abbrev pub said : WordSeek → ℕ ⊎ ℕ
+said (W.At p) = inl p
+said (W.Past n) = inr n

@@ -1,16 +1,19 @@
-// One word: in-word select by the byte table, the same without the table, and the masks of a record's last word.
+// One word: in-word select by the byte table, the same by sums over bytes, and the masks of a record's last word.
 ghost use mathlib.Core.Bool.{cond};
 ghost use mathlib.Core.Path.{_≡_};
-ghost use Prim.Native.Nat.{_%_, _^_, _<_};
+ghost use Prim.Native.Nat.{ℕ, suc, _*_, _%_, _^_, _<_};
 ghost use lib.Bits.{bitAnd};
-ghost use Rattle.select_in_word.specs.Select.{Counts, inWord, selectInByte, selectInWord};
+ghost use lib.Count.{ones};
+ghost use Rattle.rank_sel.specs.Rank.{ind};
+ghost use Rattle.select_in_word.specs.Bit.{bit};
+ghost use Rattle.select_in_word.specs.Bytes.{byteOf, Bytes, sum, firstAbove};
+ghost use Rattle.select_in_word.specs.Select.{Counts, inWord, said, seekInWord, selectInByte, selectInWord};
 ghost use Rattle.select_in_word.specs.Tail.{tailMask};
 
 mod byte_table;
 
 use byte_table::SELECT_IN_BYTE;
 use rank_sel::Refusal;
-use rank_sel::pow2;
 
 pub enum InWord {
     At(u64),
@@ -57,31 +60,62 @@ pub fn low_bits(word: u64, n: u64) -> u64
     word & ((1u64 << n) - 1)
 }
 
-// The same without the table, which the toolchain copies at every use: the half that has the sought one, down to the bit.
-pub fn select_in_word_by_halves(word: u64, rank: u64) -> InWord
-    ensures { λ r. ⌜ inWord r ≡ selectInWord word rank ⌝ }
+// The position sought in a word, or how many ones the word has where these are too few.
+pub enum WordSeek {
+    At(u64),
+    Past(u64),
+}
+
+// Each byte's ones, in that byte.
+fn byte_ones(word: u64) -> u64
+    ensures { λ r. ⌜ Bytes (λ j. ones (byteOf word j)) r ⌝ }
 {
-    if count_ones(word) <= rank {
-        return InWord::Refused(Refusal::RankTooLarge);
+    let pairs = word - ((word >> 1) & 0x5555_5555_5555_5555);
+    let nibbles = (pairs & 0x3333_3333_3333_3333) + ((pairs >> 2) & 0x3333_3333_3333_3333);
+    (nibbles + (nibbles >> 4)) & 0x0f0f_0f0f_0f0f_0f0f
+}
+
+// In each byte, the sum of the bytes up to it.
+fn running_sums(bytes: u64) -> u64
+    requires { ⌜ sum (byteOf bytes) 8 < 256 ⌝ }
+    ensures { λ r. ⌜ Bytes (λ j. sum (byteOf bytes) (suc j)) r ⌝ }
+{
+    let pairs = bytes + (bytes << 8);
+    let quads = pairs + (pairs << 16);
+    quads + (quads << 32)
+}
+
+// 8 times the number of the first byte above k: one subtraction for all bytes leaves the top bit of those.
+fn first_above(sums: u64, k: u64) -> u64
+    requires { ⌜ (k < 127) × ((j : ℕ) → j < 8 → byteOf sums j < 128) ⌝ }
+    ensures { λ r. ⌜ r ≡ 8 * firstAbove sums k ⌝ }
+{
+    let apart = (sums | 0x8080_8080_8080_8080) - (k + 1) * 0x0101_0101_0101_0101;
+    u64::trailing_zeros((apart >> 7) & 0x0101_0101_0101_0101) as u64
+}
+
+// Bit j of a byte, in byte j.
+fn spread(byte: u64) -> u64
+    requires { ⌜ byte < 256 ⌝ }
+    ensures { λ r. ⌜ Bytes (λ j. ind (bit byte j)) r ⌝ }
+{
+    let own = (byte * 0x0101_0101_0101_0101) & 0x8040_2010_0804_0201;
+    ((own + 0x7f7f_7f7f_7f7f_7f7f) >> 7) & 0x0101_0101_0101_0101
+}
+
+// The one with exactly k ones below it, by sums over bytes (Vigna, "Broadword implementation of rank/select queries").
+pub fn seek_in_word(word: u64, k: u64) -> WordSeek
+    ensures { λ r. ⌜ said r ≡ seekInWord word k ⌝ }
+{
+    let sums = running_sums(byte_ones(word));
+    let ones = sums >> 56;
+    if ones <= k {
+        return WordSeek::Past(ones);
     }
-    let mut part = word;
-    let mut remaining = rank;
-    let mut at: u64 = 0;
-    let mut log2_width: u32 = 6;
-    while log2_width > 0 {
-        log2_width -= 1;
-        let half = pow2(log2_width);
-        let low = low_bits(part, half);
-        let ones = count_ones(low);
-        if remaining < ones {
-            part = low;
-        } else {
-            remaining -= ones;
-            part = part >> half;
-            at += half;
-        }
-    }
-    InWord::At(at)
+    let at = first_above(sums, k);
+    let before = ((sums << 8) >> at) & 255;
+    let inner = running_sums(spread((word >> at) & 255));
+    WordSeek::At(at + first_above(inner, k - before) / 8)
 }
 
 // Keeps the low `residual` bits of a word, or all 64 for 0: then the last word is full.

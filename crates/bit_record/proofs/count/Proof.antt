@@ -1,82 +1,76 @@
 use mathlib.Core.Path.{_≡_, ap, _∙_}
-use Prim.Native.Nat.{_+_, _-_, _*_, _≤_}
+use Prim.Native.Nat.{_+_, _*_, _/_}
 use native.Mathlib.Omega.{arith}
+use borrow.Author.Needs.{needs}
 use borrow.Author.Tests.{le-ltb, lt-ltb}
 use Rattle.rank_sel.specs.Outcome.{answer}
 use Rattle.rank_sel.specs.Rank.{rank}
-use Rattle.rank_sel.proofs.Rank.{rank-zero, rank-le}
+use Rattle.rank_sel.proofs.Rank.{rank-zero}
 use Rattle.select_in_word.proofs.Holds.{holds-ones}
 use Rattle.bit_record.specs.Record.{selected, countOf}
-use Rattle.bit_record.proofs.Record.{rank-num}
+use Rattle.bit_record.proofs.Record.{rank-num, words-most}
 use Rattle.bit_record.proofs.count.Statement.{statement}
 use Rattle.bit_record.proofs.count.Tie as tie
 
-abbrev Inv-loop : tie.InvT-loop
-Inv-loop words len polarity n total₀ i₀ total i = (i ≤ n) × (total ≡ rank (selected polarity words len) (64 * i))
+whole : (c : tie.After-count-words) → c .count-words .result ≡ rank (selected (c .before .before .before .before .args .polarity) (c .before .before .before .before .args .words .now) (c .before .before .before .before .args .len)) (64 * (c .before .before .before .before .args .len / 64))
+whole c =
+    let a = c .before .before .before .before .args in
+    let f = selected (a .polarity) (a .words .now) (a .len) in
+    let z : rank f (64 * 0) ≡ 0 = rank-zero f in
+    let e : rank f (64 * (0 + a .len / 64)) ≡ rank f (64 * (a .len / 64)) = ap (rank f) (omega arith) in
+    omega (arith, c .count-words .ensures .exact (a .len) (omega arith))
 
-abbrev μ-loop : tie.MeasureT-loop
-μ-loop words len polarity n total₀ i₀ total i = n - i
-
-returns : tie.Need-returns Inv-loop μ-loop
+returns : tie.Need-returns
 unfolding countOf
 returns c = simp (lt-ltb _ _ (c .if1 .taken))
 
-add-n : tie.Need-add-n Inv-loop μ-loop
-add-n c = omega arith
+add-if2 : tie.Need-add-if2
+add-if2 c = search needs
 
-returns-2 : tie.Need-returns-2 Inv-loop μ-loop
+returns-2 : tie.Need-returns-2
 unfolding countOf
 returns-2 c = simp (le-ltb _ _ (c .before .if1 .left), lt-ltb _ _ (c .if2 .taken))
 
-loop-holds : tie.Need-loop-holds Inv-loop μ-loop
-loop-holds c = let a = c .before .before .before .args in omega (arith, rank-zero (selected (a .polarity) (a .words .now) (a .len)))
+count-words-requires : tie.Need-count-words-requires
+count-words-requires c κs = omega arith
 
-selected-word-requires : tie.Need-selected-word-requires Inv-loop μ-loop
-selected-word-requires c κs = omega arith
-
-count-ones-requires : tie.Need-count-ones-requires Inv-loop μ-loop
-count-ones-requires c κs = tt
-
-add-total : tie.Need-add-total Inv-loop μ-loop
-add-total c =
-    let a = c .before .before .before .before .before .before .before .args in
-    omega (arith, c .count-ones .ensures .most, rank-le (selected (a .polarity) (a .words .now) (a .len)) (64 * c .before .before .before .loop .i))
-
-add-i : tie.Need-add-i Inv-loop μ-loop
-add-i c = omega arith
-
-loop-less : tie.Need-loop-less Inv-loop μ-loop
-loop-less c = omega arith
-
-loop-again : tie.Need-loop-again Inv-loop μ-loop
-loop-again c =
-    let a = c .before .before .before .before .before .before .before .args in
-    let f = selected (a .polarity) (a .words .now) (a .len) in
-    let i = c .before .before .before .loop .i in
-    let e : rank f (64 * (i + 1)) ≡ rank f (64 * i + 64) = ap (rank f) (omega arith) in
-    omega (arith, c .count-ones .ensures .exact, holds-ones 64 f (64 * i) (c .before .selected-word .result) (c .before .selected-word .ensures))
-
-returns-3 : tie.Need-returns-3 Inv-loop μ-loop
+returns-3 : tie.Need-returns-3
 unfolding countOf
 returns-3 c =
     let a = c .before .before .before .before .before .args in
     simp (le-ltb _ _ (c .before .before .before .if1 .left), le-ltb _ _ (c .before .before .if2 .left))
-    (ap answer (c .before .loop .inv .1 ∙ rank-num (a .polarity) (a .words .now) (a .len) (64 * c .before .loop .i) (omega arith)))
+    (ap answer (whole (c .before) ∙ rank-num (a .polarity) (a .words .now) (a .len) (64 * (a .len / 64)) (omega arith)))
+
+selected-word-requires : tie.Need-selected-word-requires
+selected-word-requires c κs = omega arith
+
+count-ones-requires : tie.Need-count-ones-requires
+count-ones-requires c κs = search needs
+
+add-t10 : tie.Need-add-t10
+add-t10 c =
+    let a = c .before .before .before .before .before .before .before .args in
+    omega (arith, c .count-ones .ensures .most, words-most (a .polarity) (a .words .now) 0 (a .len / 64) (c .before .before .before .count-words .result) (c .before .before .before .count-words .ensures))
+
+returns-4 : tie.Need-returns-4
+unfolding countOf
+returns-4 c =
+    let a = c .before .before .before .before .before .before .before .args in
+    let f = selected (a .polarity) (a .words .now) (a .len) in
+    let h = holds-ones 64 f (64 * (a .len / 64)) (c .before .selected-word .result) (c .before .selected-word .ensures) in
+    simp (le-ltb _ _ (c .before .before .before .before .before .if1 .left), le-ltb _ _ (c .before .before .before .before .if2 .left))
+    (ap answer (omega (arith, h, whole (c .before .before .before), c .count-ones .ensures .exact, rank-num (a .polarity) (a .words .now) (a .len) (64 * (a .len / 64) + 64) (omega arith))))
 
 pub count-spec : {M : Type 1} → statement M
 count-spec =
     tie.close
     (tie.spec
-    Inv-loop
-    μ-loop
     returns
-    add-n
+    add-if2
     returns-2
-    loop-holds
+    count-words-requires
+    returns-3
     selected-word-requires
     count-ones-requires
-    add-total
-    add-i
-    loop-less
-    loop-again
-    returns-3)
+    add-t10
+    returns-4)

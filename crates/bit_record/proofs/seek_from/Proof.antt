@@ -1,23 +1,14 @@
-use mathlib.Core.Bool.{Bool}
 use mathlib.Core.Path.{_≡_, sym, ap, _∙_}
-use Prim.Native.Nat.{ℕ, _+_, _-_, _/_, _%_, _^_, _≤_, _<_}
+use mathlib.Core.Bool.{Bool}
+use Prim.Native.Nat.{ℕ, _+_, _-_, _%_, _≤_}
 use native.Mathlib.Omega.{arith}
-use lib.Count.{ones}
 use borrow.Author.Needs.{needs}
-use Rattle.rank_sel.specs.Seek.{Sought}
-use Rattle.rank_sel.specs.declared.Refusal.{Refusal}
-use Rattle.select_in_word.specs.Holds.{Holds}
-use Rattle.select_in_word.specs.declared.InWord.the-variants.{At, Refused}
-use Rattle.rank_sel.specs.Outcome.{numberOf}
 use Rattle.rank_sel.specs.Rank.{rank}
-use Rattle.rank_sel.proofs.Rank.{rank-mono}
-use Rattle.select_in_word.specs.Bit.{bit}
-use Rattle.select_in_word.specs.Select.{inWord}
-use Rattle.select_in_word.proofs.Bit.{ones-rank}
-use Rattle.select_in_word.proofs.Holds.{holds-from, holds-ones, holds-sought}
-use Rattle.select_in_word.proofs.Select.{word-found, word-missing}
+use Rattle.rank_sel.specs.Seek.{Sought}
+use Rattle.select_in_word.specs.Select.{said}
+use Rattle.select_in_word.specs.declared.WordSeek.the-variants.{At, Past}
 use Rattle.bit_record.specs.Record.{selected}
-use Rattle.bit_record.proofs.Seek.{record-at, record-none, sought-narrow}
+use Rattle.bit_record.proofs.Seek.{record-at, record-none, from-found, from-passed}
 use Rattle.bit_record.proofs.seek_from.Statement.{statement}
 use Rattle.bit_record.proofs.seek_from.Tie as tie
 
@@ -27,33 +18,22 @@ Inv-loop words len polarity from k remaining₀ at₀ remaining at = (from ≤ a
 abbrev μ-loop : tie.MeasureT-loop
 μ-loop words len polarity from k remaining₀ at₀ remaining at = len - at
 
--- what the last word and the in-word select in it say
-module _ (c : tie.After-select-in-word-by-halves Inv-loop μ-loop) where
+-- what seeking in the word from `at` on says
+module _ (c : tie.After-seek-in-word Inv-loop μ-loop) where
   abbrev at : ℕ
-  at = c .before .before .before .before .before .loop .at
+  at = c .before .before .before .loop .at
 
-  abbrev word : ℕ
-  word = c .before .before .before .selected-word .result / 2 ^ (at % 64)
+  abbrev remaining : ℕ
+  remaining = c .before .before .before .loop .remaining
 
-  abbrev sel : ℕ → Bool
-  sel = selected (c .before .before .before .before .before .before .before .args .polarity) (c .before .before .before .before .before .before .before .args .words .now) (c .before .before .before .before .before .before .before .args .len)
+  abbrev f : ℕ → Bool
+  f = selected (c .before .before .before .before .before .args .polarity) (c .before .before .before .before .before .args .words .now) (c .before .before .before .before .before .args .len)
 
-  held : Holds (64 - at % 64) sel at word
-  held = holds-from sel at (c .before .before .before .selected-word .result) (c .before .before .before .selected-word .ensures)
+  found : (p : ℕ) → c .seek-in-word .result ≡ At p → Sought f (64 - at % 64) at remaining (at + p)
+  found p e = from-found f at (c .before .selected-word .result) remaining (c .before .selected-word .ensures) p (sym (ap said e) ∙ c .seek-in-word .ensures)
 
-  enough : c .before .before .before .before .before .loop .remaining < ones word
-  enough = omega (arith, c .before .if1 .taken, c .before .before .count-ones .ensures .exact)
-
-  sought : (p : ℕ) → c .select-in-word-by-halves .result ≡ At p → Sought sel (64 - at % 64) at (c .before .before .before .before .before .loop .remaining) (at + p)
-  sought p e =
-      holds-sought (64 - at % 64) sel at word (c .before .before .before .before .before .loop .remaining) p held
-      (sought-narrow (64 - at % 64) word (c .before .before .before .before .before .loop .remaining) p (held .small) enough
-      (word-found word (c .before .before .before .before .before .loop .remaining) p (sym (ap inWord e) ∙ c .select-in-word-by-halves .ensures)))
-
-  refuted : (r : Refusal) → c .select-in-word-by-halves .result ≡ Refused r → ⊥
-  refuted r e =
-      let m = word-missing word (c .before .before .before .before .before .loop .remaining) (numberOf r) (sym (ap inWord e) ∙ c .select-in-word-by-halves .ensures) in
-      omega (arith, enough, ones-rank (64 - at % 64) word (held .small), rank-mono (bit word) (64 - at % 64) 64 (omega arith))
+  passed : (n : ℕ) → c .seek-in-word .result ≡ Past n → (n ≤ remaining) × (rank f (at + (64 - at % 64)) ≡ rank f at + n)
+  passed n e = from-passed f at (c .before .selected-word .result) remaining (c .before .selected-word .ensures) n (sym (ap said e) ∙ c .seek-in-word .ensures)
 
 loop-holds : tie.Need-loop-holds Inv-loop μ-loop
 loop-holds c = omega arith
@@ -64,50 +44,41 @@ selected-word-requires c κs = omega (arith, c .before .before .before .pre .hel
 shr-word : tie.Need-shr-word Inv-loop μ-loop
 shr-word c = omega arith
 
-count-ones-requires : tie.Need-count-ones-requires Inv-loop μ-loop
-count-ones-requires c κs = tt
-
-select-in-word-by-halves-requires : tie.Need-select-in-word-by-halves-requires Inv-loop μ-loop
-select-in-word-by-halves-requires c κs = tt
+seek-in-word-requires : tie.Need-seek-in-word-requires Inv-loop μ-loop
+seek-in-word-requires c κs = search needs
 
 enum-known-p : tie.Need-enum-known-p Inv-loop μ-loop
 enum-known-p c = search needs
 
-add-t18 : tie.Need-add-t18 Inv-loop μ-loop
-add-t18 c = omega (arith, sought (c .before .before .before) (c .before .p .given .0 .0) (c .before .p .given .1) .high, c .before .before .before .before .before .before .before .before .before .before .pre .short)
-
-enum-told : tie.Need-enum-told Inv-loop μ-loop
-enum-told c = search needs
+add-t17 : tie.Need-add-t17 Inv-loop μ-loop
+add-t17 c = omega (arith, found (c .before .before .before) (c .before .p .given .0 .0) (c .before .p .given .1) .high, c .before .before .before .before .before .before .before .before .pre .short)
 
 returns : tie.Need-returns Inv-loop μ-loop
 returns c =
-    let a = c .before .before .before .before .before .before .before .before .before .before .args in
-    let s = sought (c .before .before .before) (c .before .p .given .0 .0) (c .before .p .given .1) in
+    let a = c .before .before .before .before .before .before .before .before .args in
+    let s = found (c .before .before .before) (c .before .p .given .0 .0) (c .before .p .given .1) in
     record-at (a .polarity) (a .words .now) (a .len) (a .from) (a .k) (at (c .before .before .before) + c .before .p .given .0 .0) (omega arith) (s .here) (omega (arith, s .before))
 
-returns-2 : tie.Need-returns-2 Inv-loop μ-loop
-returns-2 c = absurd (refuted (c .before .before) _ (c .enum-told .given .1))
+enum-known-ones : tie.Need-enum-known-ones Inv-loop μ-loop
+enum-known-ones c = search needs
+
+sub-remaining : tie.Need-sub-remaining Inv-loop μ-loop
+sub-remaining c = passed (c .before .before .before) (c .before .ones .given .0 .0) (c .before .ones .given .1) .0
 
 sub-at : tie.Need-sub-at Inv-loop μ-loop
 sub-at c = omega arith
 
 add-at : tie.Need-add-at Inv-loop μ-loop
-add-at c = omega (arith, c .before .before .before .before .before .before .pre .short)
+add-at c = omega (arith, c .before .before .before .before .before .before .before .before .pre .short)
 
 loop-less : tie.Need-loop-less Inv-loop μ-loop
 loop-less c = omega arith
 
 loop-again : tie.Need-loop-again Inv-loop μ-loop
-loop-again c =
-    let a = c .before .before .before .before .before .before .args in
-    let f = selected (a .polarity) (a .words .now) (a .len) in
-    let p = c .before .before .before .before .loop .at in
-    let w = c .before .before .selected-word .result in
-    let h = holds-from f p w (c .before .before .selected-word .ensures) in
-    omega (arith, c .before .count-ones .ensures .exact, holds-ones (64 - p % 64) f p (w / 2 ^ (p % 64)) h)
+loop-again c = omega (arith, passed (c .before .before .before) (c .before .ones .given .0 .0) (c .before .ones .given .1))
 
-returns-3 : tie.Need-returns-3 Inv-loop μ-loop
-returns-3 c =
+returns-2 : tie.Need-returns-2 Inv-loop μ-loop
+returns-2 c =
     let a = c .before .before .before .args in
     record-none (a .polarity) (a .words .now) (a .len) (a .from) (a .k) (c .before .loop .at) (omega arith) (omega arith)
 
@@ -120,15 +91,14 @@ seek-from-spec =
     loop-holds
     selected-word-requires
     shr-word
-    count-ones-requires
-    select-in-word-by-halves-requires
+    seek-in-word-requires
     enum-known-p
-    add-t18
-    enum-told
+    add-t17
     returns
-    returns-2
+    enum-known-ones
+    sub-remaining
     sub-at
     add-at
     loop-less
     loop-again
-    returns-3)
+    returns-2)

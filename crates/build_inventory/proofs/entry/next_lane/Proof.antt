@@ -3,7 +3,7 @@ use Prim.Native.Nat.{ℕ, _-_}
 use native.Mathlib.Omega.{arith}
 use borrow.Author.Needs.{needs}
 use Rattle.inventory.proofs.Marks.{lane-in, lane-past}
-use Rattle.build_inventory.specs.Positions.{posIn}
+use Rattle.build_inventory.specs.Positions.{orEnd, posIn}
 use Rattle.build_inventory.proofs.Positions.{marked, mark-next}
 use Rattle.build_inventory.proofs.entry.next_lane.Statement.{statement}
 use Rattle.build_inventory.proofs.entry.next_lane.Tie as tie
@@ -35,21 +35,24 @@ returns-2 c =
 pow2-requires : tie.Need-pow2-requires
 pow2-requires c κs = let a = c .before .before .before .before .before .before .before .args in let r = c .before .before .before .before .before .before .before .pre in marked (a .words .now) (a .plan) (r .0) (a .x) (r .1) .close
 
-seek-or-end-requires : tie.Need-seek-or-end-requires
-seek-or-end-requires c κs = search needs
+seek-from-requires : tie.Need-seek-from-requires
+seek-from-requires c κs = search needs
+
+or-end-requires : tie.Need-or-end-requires
+or-end-requires c κs = search needs
 
 returns-3 : tie.Need-returns-3
 returns-3 c =
-    let a = c .before .before .before .before .before .before .before .before .before .args in
-    let r = c .before .before .before .before .before .before .before .before .before .pre in
-    let l = c .before .before .before .before .before .before .if1 .left in
+    let a = c .before .before .before .before .before .before .before .before .before .before .args in
+    let r = c .before .before .before .before .before .before .before .before .before .before .pre in
+    let l = c .before .before .before .before .before .before .before .if1 .left in
     record {
       gave = ap (λ (z : ℕ). z - a .x .shape .base) (r .2 l) ∙ sym (lane-in (posIn (a .words .now) (a .plan)) (a .x) (a .c .k) l);
       number = refl;
-      stands = λ m. c .seek-or-end .ensures ∙ mark-next (a .words .now) (a .plan) (r .0) (a .x) (marked (a .words .now) (a .plan) (r .0) (a .x) (r .1)) (a .c .k) (a .c .at) (c .before .pow2 .result) m (r .2 l) (c .before .pow2 .ensures);
+      stands = λ m. c .or-end .ensures ∙ ap (orEnd (a .plan)) (c .before .seek-from .ensures) ∙ mark-next (a .words .now) (a .plan) (r .0) (a .x) (marked (a .words .now) (a .plan) (r .0) (a .x) (r .1)) (a .c .k) (a .c .at) (c .before .before .pow2 .result) m (r .2 l) (c .before .before .pow2 .ensures);
     }
 
 pub next-lane-spec : {M : Type 1} → statement M
 next-lane-spec =
     tie.close
-    (tie.spec add-next returns sub-value returns-2 pow2-requires seek-or-end-requires returns-3)
+    (tie.spec add-next returns sub-value returns-2 pow2-requires seek-from-requires or-end-requires returns-3)

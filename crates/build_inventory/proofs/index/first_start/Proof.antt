@@ -1,14 +1,21 @@
-use mathlib.Core.Path.{_∙_}
+use mathlib.Core.Path.{ap, _∙_}
+use native.Mathlib.Omega.{arith}
 use borrow.Author.Needs.{needs}
+use Rattle.build_inventory.specs.Positions.{orEnd}
 use Rattle.build_inventory.proofs.Positions.{bound-first}
 use Rattle.build_inventory.proofs.index.first_start.Statement.{statement}
 use Rattle.build_inventory.proofs.index.first_start.Tie as tie
 
-seek-or-end-requires : tie.Need-seek-or-end-requires
-seek-or-end-requires c κs = search needs
+seek-far-requires : tie.Need-seek-far-requires
+seek-far-requires c κs = (c .before .pre .admitted, omega arith)
+
+or-end-requires : tie.Need-or-end-requires
+or-end-requires c κs = search needs
 
 returns : tie.Need-returns
-returns c = c .seek-or-end .ensures ∙ bound-first (c .before .before .args .words .now) (c .before .before .args .plan) (c .before .before .pre)
+returns c =
+    let a = c .before .before .before .args in
+    c .or-end .ensures ∙ ap (orEnd (a .plan)) (c .before .seek-far .ensures) ∙ bound-first (a .words .now) (a .plan) (c .before .before .before .pre)
 
 pub first-start-spec : {M : Type 1} → statement M
-first-start-spec = tie.close (tie.spec seek-or-end-requires returns)
+first-start-spec = tie.close (tie.spec seek-far-requires or-end-requires returns)
