@@ -2,27 +2,32 @@
 use mathlib.Core.Bool.{Bool, true, false, cond, _||_}
 use mathlib.Core.List.{List}
 use mathlib.Core.Logic.{⊎-elim}
-use mathlib.Core.Path.{_≡_, refl, sym, ap, _∙_}
+use mathlib.Core.Path.{_≡_, refl, sym, ap, subst, _∙_}
 use Prim.Native.Nat.{ℕ, _+_, _-_, _*_, _/_, _%_, _^_, _≤_, _<_, max}
 use native.Mathlib.Nat.{mod-le}
 use native.Mathlib.Omega.{arith}
 use lib.Dec.{leb, ltb}
 use borrow.Author.Tests.{ltb-false, leb-false, eqb-true, not-false, lt-leb, le-leb, lt-ltb, le-ltb}
-use Rattle.rank_sel.specs.Outcome.{Outcome, answer, refused, numberOf, refuseIf, andThen}
+use Rattle.rank_sel.specs.Outcome.{Outcome, answer, refused, numberOf, refuseIf, orRefuse, andThen}
 use Rattle.rank_sel.specs.declared.Refusal.{Refusal}
+use Rattle.rank_sel.specs.Seek.{seek}
 use Rattle.rank_sel.proofs.Numbers.{lt-or-le}
 use Rattle.bit_record.specs.Record.{Admitted, selected, lenTooLarge}
 use Rattle.spacing.specs.Spacing.{N, L, M}
 use Rattle.inventory.specs.Index.{stride}
 use Rattle.inventory.specs.Read.{cellAt, kindAt, spanAt, quantumAt, start, own, over, nearBy, placeBy, placeAt, numberAt, shapeAt, spanTooSmall, markAt, entryOfRank, markNumber, residual, decode, finish, positionOf, dwellBy, dwellOf, unlawful, tested, rankTooLarge}
-use Rattle.inventory.specs.Steps.{headOf, isOver, readingOf, decoded, testsOf, verdict, reasonOf, Readable}
+use Rattle.inventory.specs.Steps.{headOf, isOver, readingOf, decoded, isU64, marking, marked, testsOf, verdict, reasonOf, Readable, finished, MarkLow}
 use Rattle.inventory.specs.declared.Shape.{Shape}
+use Rattle.inventory.specs.declared.SpanType.{SpanType}
+use Rattle.inventory.specs.declared.SpanType.the-variants.{U16, U32, U64}
 use Rattle.inventory.specs.declared.Summary.{Summary}
 use Rattle.inventory.specs.declared.tests.Tested.{Tested}
 use Rattle.inventory.specs.declared.tests.Tested.the-variants.{Passed, Refused}
 use Rattle.inventory.specs.declared.decode.Decoded.{Decoded}
 use Rattle.inventory.specs.declared.decode.Decoding.{Decoding}
 use Rattle.inventory.specs.declared.decode.Decoding.the-variants as Decoding·v
+use Rattle.inventory.specs.declared.decode.Marked.{Marked}
+use Rattle.inventory.specs.declared.decode.Marked.the-variants as Marked·v
 
 -- ---- the tests
 refuse-then : {A : Type 0} (b : Bool) (n : ℕ) (o : Outcome (Unit {0})) (rest : Outcome A) → refuseIf b n (andThen o (λ u. rest)) ≡ andThen (refuseIf b n o) (λ u. rest)
@@ -123,12 +128,17 @@ readable-below t inv sp r s l a = record {
 }
 
 -- ---- a decoding
+-- p is the mark of rank r, k what is passed from it on, and b says whether it is itself the answer
+pub record MarkedAs (t : Summary) (inv sp : List ℕ) (r p k : ℕ) (b : Bool) : Type 0 where
+  pub mark : markAt t inv sp (entryOfRank t r) (markNumber t inv r) ≡ answer p
+  pub residue : k ≡ residual t inv r
+  pub exact : b ≡ isU64 (kindAt t inv (entryOfRank t r))
+
 -- what a decoded rank says of the cells
 pub record ReadAs (t : Summary) (inv sp : List ℕ) (r : ℕ) (d : Decoded) : Type 0 where
   pub head : d .head ≡ headOf t inv (entryOfRank t r)
   pub quantum : d .«log2_quantum» ≡ quantumAt t inv (entryOfRank t r)
-  pub mark : markAt t inv sp (entryOfRank t r) (markNumber t inv r) ≡ answer (d .mark)
-  pub residue : d .residual ≡ residual t inv r
+  pub marked : MarkedAs t inv sp r (d .mark) (d .residual) (isU64 (d .head .kind))
   pub spilled : d .spilled ≡ isOver (placeAt t inv (entryOfRank t r) (markNumber t inv r))
 
 then-some : {A B : Type 0} (o : Outcome A) (go : A → B) (b : B) → answer b ≡ andThen o (λ a. answer (go a)) → (a : A) × (o ≡ answer a) × (b ≡ go a)
@@ -170,13 +180,24 @@ module _ {t : Summary} {inv sp : List ℕ} {r : ℕ} where
       record {
         head = ap (λ (x : Decoded). x .head) (s .2);
         quantum = ap (λ (x : Decoded). x .«log2_quantum») (s .2);
-        mark = s .1 ∙ ap answer (sym (ap (λ (x : Decoded). x .mark) (s .2)));
-        residue = ap (λ (x : Decoded). x .residual) (s .2);
+        marked = record {
+          mark = s .1 ∙ ap answer (sym (ap (λ (x : Decoded). x .mark) (s .2)));
+          residue = ap (λ (x : Decoded). x .residual) (s .2);
+          exact = ap (λ (x : Decoded). isU64 (x .head .kind)) (s .2);
+        };
         spilled = ap (λ (x : Decoded). x .spilled) (s .2);
       }
 
   pub unread-by : (o : Decoding) → o ≡ Decoding·v.Refused → decoded o ≡ readingOf t inv sp r → Unread t inv sp r
   unread-by o eo e = record { told = sym (ap decoded eo) ∙ e }
+
+  pub marked-by : (o : Marked) (p k : ℕ) (b : Bool) → o ≡ Marked·v.At p k b → marked o ≡ marking (readingOf t inv sp r) → MarkedAs t inv sp r p k b
+  marked-by o p k b eo e =
+      let s = then-some (readingOf t inv sp r) _ (p, k, b) (sym (ap marked eo) ∙ e) in
+      subst (λ (x : ℕ × ℕ × Bool). MarkedAs t inv sp r (x .0) (x .1) (x .2)) (sym (s .2)) (read-by (Decoding·v.Mark (s .0)) (s .0) refl (sym (s .1)) .marked)
+
+  pub unmarked-by : (o : Marked) → o ≡ Marked·v.Refused → marked o ≡ marking (readingOf t inv sp r) → Unread t inv sp r
+  unmarked-by o eo e = record { told = sym (then-none (readingOf t inv sp r) _ 10 (sym (ap marked eo) ∙ e)) }
 
   unmarked : Unread t inv sp r → markAt t inv sp (entryOfRank t r) (markNumber t inv r) ≡ refused 10
   unfolding readingOf
@@ -190,36 +211,57 @@ module _ {t : Summary} {inv sp : List ℕ} {r : ℕ} where
   unfolding positionOf
   position-none w ws = simp (← decode-none w)
 
-module _ {t : Summary} {inv sp : List ℕ} {r : ℕ} {d : Decoded} (w : ReadAs t inv sp r d) where
-  pub decode-as : answer (record { mark = d .mark; rank = r - d .residual }) ≡ decode t inv sp r
+-- only a U64 mark is the answer itself
+finish-by : (k : SpanType) (f : ℕ → Bool) (len p n : ℕ) → finish k f len p n ≡ cond (isU64 k) (answer p) (orRefuse 10 (seek f (len - p) p n))
+finish-by U16 f len p n = refl
+finish-by U32 f len p n = refl
+finish-by U64 f len p n = refl
+
+module _ {t : Summary} {inv sp : List ℕ} {r p k : ℕ} {b : Bool} (w : MarkedAs t inv sp r p k b) where
+  pub decode-as : answer (record { mark = p; rank = r - k }) ≡ decode t inv sp r
   unfolding decode
   decode-as = simp (w .mark, w .residue)
 
-  pub position-as : (ws : List ℕ) → finish (d .head .kind) (selected (t .plan .polarity) ws (t .plan .len)) (t .plan .len) (d .mark) (d .residual) ≡ positionOf ws t inv sp r
+  pub position-as : (ws : List ℕ) → cond b (answer p) (orRefuse 10 (seek (selected (t .plan .polarity) ws (t .plan .len)) (t .plan .len - p) p k)) ≡ positionOf ws t inv sp r
   unfolding positionOf
-  position-as ws = simp (← decode-as, w .residue, w .head)
+  position-as ws = simp (← decode-as, finish-by, w .exact, w .residue)
 
-  marked : (n : ℕ) × (numberAt t inv sp (entryOfRank t r) (placeAt t inv (entryOfRank t r) (markNumber t inv r)) ≡ answer n) × (d .mark < t .plan .len)
+  numbered : (n : ℕ) × (numberAt t inv sp (entryOfRank t r) (placeAt t inv (entryOfRank t r) (markNumber t inv r)) ≡ answer n) × (p < t .plan .len)
   unfolding markAt
-  marked =
-      within (numberAt t inv sp (entryOfRank t r) (placeAt t inv (entryOfRank t r) (markNumber t inv r))) (t .plan .len) (shapeAt t inv (entryOfRank t r) .base) (d .mark)
-      (refuse-passed (spanTooSmall (kindAt t inv (entryOfRank t r)) (spanAt t inv (entryOfRank t r))) 10 _ (d .mark) (sym (w .mark)) .1)
+  numbered =
+      within (numberAt t inv sp (entryOfRank t r) (placeAt t inv (entryOfRank t r) (markNumber t inv r))) (t .plan .len) (shapeAt t inv (entryOfRank t r) .base) p
+      (refuse-passed (spanTooSmall (kindAt t inv (entryOfRank t r)) (spanAt t inv (entryOfRank t r))) 10 _ p (sym (w .mark)) .1)
 
-  pub mark-low : d .mark < t .plan .len
-  mark-low = marked .2
+  pub mark-low : p < t .plan .len
+  mark-low = numbered .2
 
-  pub residue-low : d .residual ≤ r
+  pub residue-low : k ≤ r
   unfolding residual
   residue-low = omega (arith, w .residue, mod-le (r % 2 ^ L (t .plan)) (2 ^ quantumAt t inv (entryOfRank t r)), mod-le r (2 ^ L (t .plan)))
 
+-- a mark as it was read: it leads to the position, and lies below len
+pub record MarkRead (t : Summary) (inv sp : List ℕ) (r : ℕ) (o : Marked) : Type 0 where
+  pub told : marked o ≡ marking (readingOf t inv sp r)
+
+module _ {t : Summary} {inv sp : List ℕ} {r : ℕ} where
+  pub position-by : {o : Marked} → MarkRead t inv sp r o → (ws : List ℕ) → finished ws (t .plan) o ≡ positionOf ws t inv sp r
+  position-by {o = Marked·v.At p k b} w ws = position-as (marked-by (Marked·v.At p k b) p k b refl (w .told)) ws
+  position-by {o = Marked·v.Refused} w ws = position-none (unmarked-by Marked·v.Refused refl (w .told)) ws
+
+  pub low-by : {o : Marked} → MarkRead t inv sp r o → MarkLow (t .plan) o
+  low-by {o = Marked·v.At p k b} w = mark-low (marked-by (Marked·v.At p k b) p k b refl (w .told))
+  low-by {o = Marked·v.Refused} w = tt
+
+module _ {t : Summary} {inv sp : List ℕ} {r : ℕ} {d : Decoded} (w : ReadAs t inv sp r d) where
   -- a spilled mark stands at or after the cell that the second cell numbers
   pub over-low : d .spilled ≡ true → cellAt t inv (entryOfRank t r) 1 < t .«spill_len»
   unfolding placeAt numberAt
   over-low e =
       let s = shapeAt t inv (entryOfRank t r) in
       let o = over-place s (M (t .plan)) (entryOfRank t r * stride (t .plan) + 1 + s .heads) (cellAt t inv (entryOfRank t r) 1) (markNumber t inv r) (sym (w .spilled) ∙ e) in
-      let n : numberAt t inv sp (entryOfRank t r) (over (cellAt t inv (entryOfRank t r) 1 + o .0) (o .1)) ≡ answer (marked .0) = rw (o .2) at (marked .1) in
-      let f = refuse-passed (leb (t .«spill_len») (cellAt t inv (entryOfRank t r) 1 + o .0)) 10 _ (marked .0) (sym n) in
+      let m = numbered (w .marked) in
+      let n : numberAt t inv sp (entryOfRank t r) (over (cellAt t inv (entryOfRank t r) 1 + o .0) (o .1)) ≡ answer (m .0) = rw (o .2) at (m .1) in
+      let f = refuse-passed (leb (t .«spill_len») (cellAt t inv (entryOfRank t r) 1 + o .0)) 10 _ (m .0) (sym n) in
       omega (arith, leb-false (t .«spill_len») (cellAt t inv (entryOfRank t r) 1 + o .0) (f .0))
 
 -- ---- dwell

@@ -2,26 +2,30 @@
 use mathlib.Core.Bool.{Bool, true, false}
 use mathlib.Core.List.{List}
 use mathlib.Core.Path.{_≡_, refl, sym, ap, _∙_}
-use Prim.Native.Nat.{ℕ, _+_, _-_, _/_, _%_, _^_, _≤_, _<_}
-use native.Mathlib.Nat.{mul-le-mul-right, div-mul-le-self}
+use Prim.Native.Nat.{ℕ, _+_, _*_, _/_, _%_, _^_, _≤_, _<_}
+use native.Mathlib.Nat.{add-zero, sub-zero, lt-of-lt-of-le, mod-lt, mul-le-mul-right, div-mul-le-self}
 use native.Mathlib.Omega.{arith}
 use lib.Dec.{leb}
-use lib.ListN.{getD}
-use lib.Pow.{pow-pos}
+use lib.ListN.{length, getD}
+use lib.Pow.{pow-pos, pow-mono, pow-add, shr-lt}
 use borrow.Author.Tests.{le-leb, lt-leb}
 use Rattle.rank_sel.specs.Outcome.{Outcome, answer, refused, refuseIf}
-use Rattle.spacing.specs.Spacing.{N, L, S}
+use Rattle.spacing.specs.Spacing.{N, L, M, S}
 use Rattle.rank_sel.proofs.Ceil.{below-ceil}
+use Rattle.rank_sel.proofs.Numbers.{ilog2-unique}
 use Rattle.inventory.specs.Index.{stride, entriesOf, inventoryLenOf}
 use Rattle.inventory.specs.Lanes.{laneOf}
-use Rattle.inventory.specs.Read.{kindAt, spanAt, quantumAt, shapeAt, Place, start, own, over, placeAt, numberAt, spanTooSmall, markAt, entryOfRank, markNumber, residual}
-use Rattle.inventory.specs.Steps.{headOf, EntryIn, HeadIn, isOver, numbered, numberOfMark, spacingAt, readingOf, Readable}
+use Rattle.inventory.specs.Read.{tagged, kindAt, spanAt, quantumAt, shapeAt, Place, start, own, over, placeAt, numberAt, spanTooSmall, markAt, entryOfRank, markNumber, residual}
+use Rattle.inventory.specs.Steps.{headOf, EntryIn, HeadIn, isOver, numbered, numberOfMark, spacingAt, readingOf, marking, Readable}
 use Rattle.inventory.specs.Shape.{shapeOf}
 use Rattle.inventory.specs.declared.Shape.{Shape}
 use Rattle.inventory.proofs.Marks.{quantum-le}
+use Rattle.inventory.proofs.Reading.{tagged-16, shaped, spot-own, head-read, kind-as, spacing-16, Spotted, own-in, number-own}
+use Rattle.inventory.specs.declared.SpanType.the-variants.{U16}
 use Rattle.inventory.specs.declared.Summary.{Summary}
 use Rattle.inventory.specs.declared.decode.Head.{Head}
 use Rattle.inventory.specs.declared.decode.Number.the-variants.{Is, Missing}
+use Rattle.inventory.specs.declared.decode.Spot.the-variants.{Own}
 
 -- ---- the entry of a rank below N
 pub entry-in : (t : Summary) (inv sp : List ℕ) (r : ℕ) → Readable t inv sp r → EntryIn t inv (entryOfRank t r)
@@ -128,12 +132,66 @@ module _ {t : Summary} {inv sp : List ℕ} {r : ℕ} {h : Head} {q sub n : ℕ} 
   unfolding shapeAt
   shape-is = w .shape ∙ ap (λ (x : Head). shapeOf (x .kind) (x .start)) (w .divided .head .read)
 
-  pub reading-past : t .plan .len - s .base ≤ n → refused 10 ≡ readingOf t inv sp r
+  pub reading-past : t .plan .len ≤ s .base + n → refused 10 ≡ readingOf t inv sp r
   unfolding readingOf markAt
-  reading-past l = simp (spaced-is (w .divided) .0, found .0, ← shape-is, le-leb (t .plan .len) (s .base + n) (omega arith))
+  reading-past l = simp (spaced-is (w .divided) .0, found .0, ← shape-is, le-leb (t .plan .len) (s .base + n) l)
 
-  pub reading-is : n < t .plan .len - s .base → (res : ℕ) → res ≡ sub % 2 ^ q
+  pub reading-is : s .base + n < t .plan .len → (res : ℕ) → res ≡ sub % 2 ^ q
       → answer (record { head = h; «log2_quantum» = q; mark = s .base + n; residual = res; spilled = b }) ≡ readingOf t inv sp r
   unfolding readingOf markAt residual
   reading-is l res er =
-      simp (spaced-is (w .divided) .0, found .0, ← shape-is, lt-leb (t .plan .len) (s .base + n) (omega arith), er, w .divided .subrank, w .divided .head .read, spaced-is (w .divided) .1, found .1)
+      simp (spaced-is (w .divided) .0, found .0, ← shape-is, lt-leb (t .plan .len) (s .base + n) l, er, w .divided .subrank, w .divided .head .read, spaced-is (w .divided) .1, found .1)
+
+-- ---- a U16 entry
+-- c is the number of the first cell of r's entry, which is U16, and sub the subrank of r
+pub record Quartered (t : Summary) (inv sp : List ℕ) (r c sub : ℕ) : Type 0 where
+  pub readable : Readable t inv sp r
+  pub cell : c ≡ entryOfRank t r * stride (t .plan)
+  pub kind : U16 ≡ tagged (getD inv c 0 / 2 ^ 62)
+  pub subrank : sub ≡ r % 2 ^ L (t .plan)
+
+abbrev headU16 : List ℕ → ℕ → ℕ → Head
+headU16 inv e c = record { entry = e; cell = c; kind = U16; start = getD inv c 0 }
+
+module _ {t : Summary} {inv sp : List ℕ} {r c sub : ℕ} (w : Quartered t inv sp r c sub) where
+  quarter-head : Headed t inv sp r (headU16 inv (entryOfRank t r) c)
+  quarter-head = record { readable = w .readable; read = head-read t inv (entryOfRank t r) c U16 (getD inv c 0) (w .cell) (w .kind) refl }
+
+  -- its marks all stand in its own cells
+  quarter-near : sub / 2 ^ S (t .plan) < 2 ^ M (t .plan) * 4
+  quarter-near =
+      let l : sub < 2 ^ (M (t .plan) + 2 + S (t .plan)) = lt-of-lt-of-le (omega (arith, w .subrank, mod-lt r (pow-pos (L (t .plan))))) (pow-mono {i = L (t .plan)} {j = M (t .plan) + 2 + S (t .plan)} (omega (arith, w .readable .spaced))) in
+      rw pow-add at (shr-lt (M (t .plan) + 2) (S (t .plan)) l)
+
+  quarter-spot : Spotted t inv (entryOfRank t r) (sub / 2 ^ S (t .plan)) (headU16 inv (entryOfRank t r) c) (shapeOf U16 (getD inv c 0)) (Own (sub / 2 ^ S (t .plan) / 4) (sub / 2 ^ S (t .plan) % 4))
+  quarter-spot = record {
+    head = quarter-head .read;
+    shape = refl;
+    place = simp sub-zero at (spot-own (shapeOf U16 (getD inv c 0)) (M (t .plan)) (sub / 2 ^ S (t .plan)) (shaped U16 (getD inv c 0)) 2 (2 ^ M (t .plan)) (sym (ilog2-unique 4 2 (omega arith) (omega arith))) refl (omega arith) (omega (arith, quarter-near)) _ refl);
+    lent = entry-in t inv sp r (w .readable);
+  }
+
+  pub quarter-in : c + 1 + sub / 2 ^ S (t .plan) / 4 < length inv
+  quarter-in = simp add-zero at (own-in quarter-spot _ _ refl)
+
+  module _ (n : ℕ) (en : n ≡ laneOf 16 (getD inv (c + 1 + sub / 2 ^ S (t .plan) / 4) 0) (sub / 2 ^ S (t .plan) % 4)) where
+    pub quarter-fits : getD inv c 0 + n < 2 ^ 64
+    unfolding laneOf
+    quarter-fits = omega (arith, en, tagged-16 (getD inv c 0 / 2 ^ 62) (sym (w .kind)))
+
+    quarter-number : Numbered t inv sp r (headU16 inv (entryOfRank t r) c) (S (t .plan)) sub n false (shapeOf U16 (getD inv c 0))
+    quarter-number = record {
+      divided = record {
+        head = quarter-head;
+        spacing = spacing-16 t inv (entryOfRank t r) (kind-as t inv (entryOfRank t r) _ U16 (quarter-head .read) refl);
+        subrank = w .subrank;
+      };
+      number = number-own quarter-spot sp _ _ n refl (simp add-zero en);
+      shape = refl;
+    }
+
+    pub quarter-past : t .plan .len ≤ getD inv c 0 + n → refused 10 ≡ marking (readingOf t inv sp r)
+    quarter-past l = ap marking (reading-past quarter-number l)
+
+    pub quarter-is : getD inv c 0 + n < t .plan .len → (res : ℕ) → res ≡ sub % 2 ^ S (t .plan) → answer (getD inv c 0 + n, res, false) ≡ marking (readingOf t inv sp r)
+    quarter-is l res er = ap marking (reading-is quarter-number l res er)

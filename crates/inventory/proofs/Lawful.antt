@@ -1,8 +1,8 @@
 -- The tests of a summary and of lent cells, and what passing them shows.
 use mathlib.Core.Bool.{Bool, true, false, not}
 use mathlib.Core.Path.{_≡_, refl, sym, ap, _∙_}
-use Prim.Native.Nat.{ℕ, _+_, _-_, _*_, _/_, _%_, _≤_, _<_}
-use native.Mathlib.Nat.{mul-div-left, mul-mod-left, div-add-mod'}
+use Prim.Native.Nat.{ℕ, _+_, _-_, _*_, _/_, _%_, _^_, _≤_, _<_}
+use native.Mathlib.Nat.{mul-div-left, div-mul-le-self, mod-eq-of-lt}
 use native.Mathlib.Omega.{arith}
 use lib.Dec.{eqb}
 use borrow.Author.Tests.{eqb-true, eqb-false, eq-eqb, ne-eqb}
@@ -25,16 +25,16 @@ module _ (n e m : ℕ) where
   pub count-few : n ≤ e → eqb n (e * (m + 1) + 1) ≡ false
   count-few l = ne-eqb n (e * (m + 1) + 1) (λ h. omega arith)
 
-  pub count-rest : ((n - e - 1) % m ≡ 0 → ⊥) → eqb n (e * (m + 1) + 1) ≡ false
-  count-rest f = ne-eqb n (e * (m + 1) + 1) (λ h. f (ap (λ (x : ℕ). x % m) (taken-off h) ∙ mul-mod-left e m))
+  pub count-other : 0 < m → ((n - e - 1) / m ≡ e → ⊥) → eqb n (e * (m + 1) + 1) ≡ false
+  count-other z f = ne-eqb n (e * (m + 1) + 1) (λ h. f (ap (λ (x : ℕ). x / m) (taken-off h) ∙ mul-div-left e z))
 
-  pub count-is : 0 < m → e < n → (n - e - 1) % m ≡ 0 → eqb ((n - e - 1) / m) e ≡ eqb n (e * (m + 1) + 1)
-  count-is z l r = go (eqb ((n - e - 1) / m) e) refl
+  -- a shift of e drops no bit, since e * m is at most n
+  pub count-is : n < 2 ^ 64 → e < n → (n - e - 1) / m ≡ e → eqb (e * m % 2 ^ 64) (n - e - 1) ≡ eqb n (e * (m + 1) + 1)
+  count-is u l q =
+      let d = div-mul-le-self (n - e - 1) m in
+      let k : e * m ≤ n - e - 1 = rw q at d in
+      rw (mod-eq-of-lt {n = e * m} {m = 2 ^ 64} (omega arith)) (go (eqb (e * m) (n - e - 1)) refl)
     where
-      go : (b : Bool) → eqb ((n - e - 1) / m) e ≡ b → b ≡ eqb n (e * (m + 1) + 1)
-      go true h =
-          let d = div-add-mod' (n - e - 1) m in
-          let q : (n - e - 1) / m * m ≡ e * m = ap (λ (x : ℕ). x * m) (eqb-true ((n - e - 1) / m) e h) in
-          sym (eq-eqb n (e * (m + 1) + 1) (omega arith))
-      go false h =
-          sym (ne-eqb n (e * (m + 1) + 1) (λ g. eqb-false ((n - e - 1) / m) e h (ap (λ (x : ℕ). x / m) (taken-off g) ∙ mul-div-left e z)))
+      go : (b : Bool) → eqb (e * m) (n - e - 1) ≡ b → b ≡ eqb n (e * (m + 1) + 1)
+      go true h = sym (eq-eqb n (e * (m + 1) + 1) (omega (arith, eqb-true (e * m) (n - e - 1) h)))
+      go false h = sym (ne-eqb n (e * (m + 1) + 1) (λ g. eqb-false (e * m) (n - e - 1) h (sym (taken-off g))))

@@ -57,7 +57,7 @@ module _ {ws : List ℕ} {t : Summary} {inv sp : List ℕ} {r : ℕ} {d : Decode
 
   part-read : partBy t inv (entryOfRank t r) (placeAt t inv (entryOfRank t r) (markNumber t inv r)) ≡ subinventoryOf ws t inv sp r
   unfolding hintOf
-  part-read = part-of ws t inv sp r _ (decode-as (s .read) ∙ passed-then (s .passes) (decode t inv sp r))
+  part-read = part-of ws t inv sp r _ (decode-as (s .read .marked) ∙ passed-then (s .passes) (decode t inv sp r))
 
   pub part-own : d .spilled ≡ false → subinventoryOf ws t inv sp r ≡ ofInventory (d .head .cell + 1) (2 ^ M (t .plan))
   part-own f =

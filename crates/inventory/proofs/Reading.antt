@@ -35,6 +35,12 @@ tagged-low zero h = refl
 tagged-low (suc zero) h = refl
 tagged-low (suc (suc t)) h = absurd (omega arith)
 
+pub tagged-16 : (t : ℕ) → tagged t ≡ U16 → t < 2
+tagged-16 zero e = omega arith
+tagged-16 (suc zero) e = omega arith
+tagged-16 (suc (suc zero)) e = let z : _≡_ {A = ℕ} 0 1 = cc in absurd (omega arith)
+tagged-16 (suc (suc (suc t))) e = let z : _≡_ {A = ℕ} 0 1 = cc in absurd (omega arith)
+
 pub tagged-high : (t : ℕ) → 2 < t → tagged t ≡ U64
 tagged-high zero h = absurd (omega arith)
 tagged-high (suc zero) h = absurd (omega arith)
@@ -112,11 +118,10 @@ module _ (s : Shape) (m i : ℕ) (h : Shaped s) where
 
 -- ---- an entry's first cell and its spacing
 module _ (t : Summary) (inv : List ℕ) (e : ℕ) where
-  -- p is 2^M as it was reckoned
-  pub head-read : (p : ℕ) (kind : SpanType) (start : ℕ) → p ≡ 2 ^ M (t .plan) → kind ≡ tagged (getD inv (e * (p + 1)) 0 / 2 ^ 62)
-      → start ≡ startBy kind (getD inv (e * (p + 1)) 0) → record { entry = e; cell = e * (p + 1); kind = kind; start = start } ≡ headOf t inv e
+  pub head-read : (c : ℕ) (kind : SpanType) (start : ℕ) → c ≡ e * stride (t .plan) → kind ≡ tagged (getD inv c 0 / 2 ^ 62)
+      → start ≡ startBy kind (getD inv c 0) → record { entry = e; cell = c; kind = kind; start = start } ≡ headOf t inv e
   unfolding cellAt kindAt startAt
-  head-read p kind start ep ek es = simp (es, ek, ep, add-zero)
+  head-read c kind start ec ek es = simp (es, ek, ec, add-zero)
 
   pub kind-as : (h : Head) (k : SpanType) → h ≡ headOf t inv e → h .kind ≡ k → kindAt t inv e ≡ k
   kind-as h k eh ek = sym (ap (λ (x : Head). x .kind) eh) ∙ ek

@@ -1,23 +1,29 @@
 -- What the values that the reading code hands on stand for, in the words of Read.
-use mathlib.Core.Bool.{Bool, true, false}
+use mathlib.Core.Bool.{Bool, true, false, cond}
 use mathlib.Core.List.{List}
 use mathlib.Core.Path.{_≡_}
 use Prim.Native.Nat.{ℕ, _+_, _-_, _*_, _^_, _≤_, _<_}
 use lib.ListN.{length}
 use Rattle.rank_sel.specs.Numbers.{ilog2}
-use Rattle.rank_sel.specs.Outcome.{Outcome, answer, refused, numberOf, refuseIf, andThen}
+use Rattle.rank_sel.specs.Outcome.{Outcome, answer, refused, numberOf, refuseIf, orRefuse, andThen}
+use Rattle.rank_sel.specs.Seek.{seek}
 use Rattle.rank_sel.specs.declared.Refusal.{Refusal}
 use Rattle.rank_sel.specs.declared.Refusal.the-variants.{SummaryUnlawful}
+use Rattle.bit_record.specs.Record.{selected}
 use Rattle.spacing.specs.Spacing.{maxLog2Words, N, L, M, S}
 use Rattle.spacing.specs.declared.Parameters.{Parameters}
 use Rattle.inventory.specs.Index.{stride, inventoryLenOf}
 use Rattle.inventory.specs.Read.{kindAt, startAt, spanAt, quantumAt, Place, start, own, over, placeBy, placeAt, numberAt, spanTooSmall, markAt, entryOfRank, markNumber, residual, tested, rankTooLarge}
 use Rattle.inventory.specs.declared.Shape.{Shape}
+use Rattle.inventory.specs.declared.SpanType.{SpanType}
+use Rattle.inventory.specs.declared.SpanType.the-variants.{U16, U32, U64}
 use Rattle.inventory.specs.declared.Summary.{Summary}
 use Rattle.inventory.specs.declared.decode.Decoded.{Decoded}
 use Rattle.inventory.specs.declared.decode.Decoding.{Decoding}
 use Rattle.inventory.specs.declared.decode.Decoding.the-variants as Decoding·v
 use Rattle.inventory.specs.declared.decode.Head.{Head}
+use Rattle.inventory.specs.declared.decode.Marked.{Marked}
+use Rattle.inventory.specs.declared.decode.Marked.the-variants as Marked·v
 use Rattle.inventory.specs.declared.decode.Number.{Number}
 use Rattle.inventory.specs.declared.decode.Number.the-variants as Number·v
 use Rattle.inventory.specs.declared.decode.Spaced.{Spaced}
@@ -130,6 +136,30 @@ readingOf t inv sp r =
 abbrev pub decoded : Decoding → Outcome Decoded
 decoded (Decoding·v.Mark d) = answer d
 decoded Decoding·v.Refused = refused 10
+
+abbrev pub isU64 : SpanType → Bool
+isU64 U16 = false
+isU64 U32 = false
+isU64 U64 = true
+
+-- the mark alone, what is passed from it on, and whether it is itself the answer
+abbrev pub marking : Outcome Decoded → Outcome (ℕ × ℕ × Bool)
+marking o = andThen o (λ d. answer (d .mark, d .residual, isU64 (d .head .kind)))
+
+abbrev pub marked : Marked → Outcome (ℕ × ℕ × Bool)
+marked (Marked·v.At p k b) = answer (p, k, b)
+marked Marked·v.Refused = refused 10
+
+-- ---- step 7
+-- the position that a mark leads to
+abbrev pub finished : List ℕ → Parameters → Marked → Outcome ℕ
+finished ws p (Marked·v.At m k b) = cond b (answer m) (orRefuse 10 (seek (selected (p .polarity) ws (p .len)) (p .len - m) m k))
+finished ws p Marked·v.Refused = refused 10
+
+-- a mark below len
+abbrev pub MarkLow : Parameters → Marked → Type 0
+MarkLow p (Marked·v.At m k b) = m < p .len
+MarkLow p Marked·v.Refused = Unit {0}
 
 -- what counting an entry's spilled cells asks of a plan and of what was decoded
 pub record Countable (p : Parameters) (d : Decoded) : Type 0 where

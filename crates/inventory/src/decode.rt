@@ -1,11 +1,12 @@
 // Steps 2 to 6 on any cells: tag, start, place, number and mark.
 ghost use mathlib.Core.Path.{_≡_};
-ghost use Prim.Native.Nat.{_*_, _/_, _^_, _≤_, _<_};
-ghost use lib.ListN.{length};
+ghost use Prim.Native.Nat.{_+_, _*_, _/_, _%_, _^_, _≤_, _<_};
+ghost use lib.ListN.{length, getD};
 ghost use Rattle.spacing.specs.Spacing.{maxLog2Words};
+ghost use Rattle.inventory.specs.Index.{stride};
 ghost use Rattle.inventory.specs.Lanes.{laneOf};
 ghost use Rattle.inventory.specs.Read.{spanAt, startBy, tagged};
-ghost use Rattle.inventory.specs.Steps.{EntryIn, HeadIn, Placed, Readable, Shaped, decoded, headOf, numberOfMark, readingOf, spaced, spacingAt};
+ghost use Rattle.inventory.specs.Steps.{EntryIn, HeadIn, Placed, Readable, Shaped, decoded, headOf, marked, marking, numberOfMark, readingOf, spaced, spacingAt};
 use crate::Shape;
 use crate::SpanType;
 use crate::Summary;
@@ -15,6 +16,7 @@ use rank_sel::ilog2;
 use rank_sel::pow2;
 use rank_sel::saturating_sub;
 use select_in_word::low_bits;
+use spacing::Parameters;
 
 // The low bits of a first cell that say the start; the tag stands above them.
 const START_BITS: u64 = 62;
@@ -59,6 +61,12 @@ pub(crate) enum Decoding {
     Refused,
 }
 
+// The mark of a rank, the selected bits to pass from it on, and whether it is itself the answer.
+pub(crate) enum Marked {
+    At(u64, u64, bool),
+    Refused,
+}
+
 fn kind_of(cell: u64) -> SpanType
     ensures { λ r. ⌜ r ≡ tagged (cell / 2 ^ 62) ⌝ }
 {
@@ -82,11 +90,19 @@ fn start_of(kind: SpanType, cell: u64) -> u64
     }
 }
 
+fn first_cell(plan: Parameters, entry: u64) -> u64
+    requires { ⌜ (plan .«log2_words_per_subinventory» < 64) × (entry * stride plan < 2 ^ 64) ⌝ }
+    ensures { λ r. ⌜ r ≡ entry * stride plan ⌝ }
+{
+    entry * (pow2(plan.log2_words_per_subinventory) + 1)
+}
+
 fn read_head(summary: Summary, inventory: &[u64], entry: u64) -> Head
     requires { ⌜ EntryIn summary (now inventory) entry ⌝ }
     ensures { λ r. ⌜ r ≡ headOf summary (now (inventory .entry)) entry ⌝ }
 {
-    let cell = entry * (pow2(summary.plan.log2_words_per_subinventory) + 1);
+    let plan = summary.plan;
+    let cell = first_cell(plan, entry);
     let first = inventory[cell as usize];
     let kind = kind_of(first);
     let start = start_of(kind, first);
@@ -209,4 +225,50 @@ pub(crate) fn decode(summary: Summary, inventory: &[u64], spill: &[u64], rank: u
         residual,
         spilled,
     })
+}
+
+// What a decoding says of the mark alone.
+fn mark_by(decoding: Decoding) -> Marked
+    ensures { λ r. ⌜ marked r ≡ marking (decoded decoding) ⌝ }
+{
+    let Decoding::Mark(decoded) = decoding else {
+        return Marked::Refused;
+    };
+    let head = decoded.head;
+    let kind = head.kind;
+    match kind {
+        SpanType::U16 => Marked::At(decoded.mark, decoded.residual, false),
+        SpanType::U32 => Marked::At(decoded.mark, decoded.residual, false),
+        SpanType::U64 => Marked::At(decoded.mark, decoded.residual, true),
+    }
+}
+
+// Number i of a U16 entry, whose cells from `first` on hold its numbers.
+fn quarter_at(inventory: &[u64], first: u64, i: u64) -> u64
+    requires { ⌜ first + i / 4 < length (now inventory) ⌝ }
+    ensures { λ r. ⌜ r ≡ laneOf 16 (getD (now (inventory .entry)) (first + i / 4) 0) (i % 4) ⌝ }
+{
+    lane_of(16, inventory[(first + i / 4) as usize], i % 4)
+}
+
+// Steps 2 to 6 for a caller that asks for the mark alone. Nearly every entry is U16, and its numbers all stand in its own
+// cells: they are read without the general shape.
+pub(crate) fn mark_of(summary: Summary, inventory: &[u64], spill: &[u64], rank: u64) -> Marked
+    requires { ⌜ Readable summary (now inventory) (now spill) rank ⌝ }
+    ensures { λ r. ⌜ marked r ≡ marking (readingOf summary (now (inventory .entry)) (now (spill .entry)) rank) ⌝ }
+{
+    let plan = summary.plan;
+    let l = plan.log2_ones_per_inventory;
+    let s = plan.log2_ones_per_sub16;
+    let cell = first_cell(plan, rank >> l);
+    let start = inventory[cell as usize];
+    let SpanType::U16 = kind_of(start) else {
+        return mark_by(decode(summary, inventory, spill, rank));
+    };
+    let subrank = low_bits(rank, l as u64);
+    let mark = start + quarter_at(inventory, cell + 1, subrank >> s);
+    if plan.len <= mark {
+        return Marked::Refused;
+    }
+    Marked::At(mark, low_bits(subrank, s as u64), false)
 }

@@ -1,6 +1,6 @@
 // The four entries that read an index: jump, hint, store and dwell.
 ghost use mathlib.Core.Path.{_≡_};
-ghost use Prim.Native.Nat.{_-_, _*_, _/_, _^_, _≤_, _<_};
+ghost use Prim.Native.Nat.{_-_, _*_, _/_, _^_, _<_};
 ghost use lib.ListN.{length};
 ghost use Rattle.rank_sel.specs.Numbers.{ceilDiv};
 ghost use Rattle.rank_sel.specs.Outcome.{answered, orRefuse};
@@ -8,13 +8,14 @@ ghost use Rattle.rank_sel.specs.Seek.{seek};
 ghost use Rattle.bit_record.specs.Record.{Admitted, bitAt, chosen, selected};
 ghost use Rattle.inventory.specs.Index.{ranksOf};
 ghost use Rattle.inventory.specs.Shape.{spilledBy};
-ghost use Rattle.inventory.specs.Read.{PartIn, PointsAt, cellsOf, dwellBy, dwellOf, hintOf, hinted, partOf, positionOf, selectOf, subinventoryOf};
-ghost use Rattle.inventory.specs.Steps.{Countable, Readable, reasonOf};
-use crate::SpanType;
+ghost use Rattle.inventory.specs.Read.{PartIn, PointsAt, cellsOf, dwellBy, dwellOf, hintOf, hinted, partOf, selectOf, subinventoryOf};
+ghost use Rattle.inventory.specs.Steps.{Countable, MarkLow, finished, reasonOf};
 use crate::Summary;
 use crate::decode::Decoded;
 use crate::decode::Decoding;
+use crate::decode::Marked;
 use crate::decode::decode;
+use crate::decode::mark_of;
 use crate::spilled_by;
 use crate::tests::Tested;
 use crate::tests::ceil_shift;
@@ -72,21 +73,19 @@ fn seek_mark(words: &[u64], plan: Parameters, mark: u64, residual: u64) -> Answe
     }
 }
 
-// Steps 2 to 7.
-fn position(words: &[u64], summary: Summary, inventory: &[u64], spill: &[u64], rank: u64) -> Answer
-    requires { ⌜ Admitted (now words) (summary .plan .len) × Readable summary (now inventory) (now spill) rank ⌝ }
-    ensures { λ r. ⌜ answered r ≡ positionOf (now (words .entry)) summary (now (inventory .entry)) (now (spill .entry)) rank ⌝ }
+// The position that a mark leads to. A function of the mark, not of the rank: with the summary and the cells left to
+// the caller, no call has to copy them.
+fn finish(words: &[u64], plan: Parameters, marked: Marked) -> Answer
+    requires { ⌜ Admitted (now words) (plan .len) × MarkLow plan marked ⌝ }
+    ensures { λ r. ⌜ answered r ≡ finished (now (words .entry)) plan marked ⌝ }
 {
-    let plan = summary.plan;
-    let Decoding::Mark(decoded) = decode(summary, inventory, spill, rank) else {
+    let Marked::At(mark, residual, exact) = marked else {
         return Answer::Refused(Refusal::CellsUnlawful);
     };
-    let head = decoded.head;
-    let kind = head.kind;
-    match kind {
-        SpanType::U16 | SpanType::U32 => seek_mark(words, plan, decoded.mark, decoded.residual),
-        SpanType::U64 => Answer::Value(decoded.mark),
+    if exact {
+        return Answer::Value(mark);
     }
+    seek_mark(words, plan, mark, residual)
 }
 
 // Jump: the position of a rank.
@@ -103,7 +102,8 @@ pub fn select(
     let Tested::Passed = tested else {
         return Answer::Refused(reason(tested));
     };
-    position(words, summary, inventory, spill, rank)
+    let plan = summary.plan;
+    finish(words, plan, mark_of(summary, inventory, spill, rank))
 }
 
 // Hint: a rank's mark and the mark's rank. It looks for no bit, so it can answer where jump says 10.
@@ -114,10 +114,10 @@ pub fn hint(words: &[u64], summary: Summary, inventory: &[u64], spill: &[u64], r
     let Tested::Passed = tested else {
         return Hinted::Refused(reason(tested));
     };
-    let Decoding::Mark(decoded) = decode(summary, inventory, spill, rank) else {
+    let Marked::At(mark, residual, _) = mark_of(summary, inventory, spill, rank) else {
         return Hinted::Refused(Refusal::CellsUnlawful);
     };
-    Hinted::Mark(decoded.mark, rank - decoded.residual)
+    Hinted::Mark(mark, rank - residual)
 }
 
 // The cells that the entry of a decoded rank spills, by the build's rule for what was read.
@@ -223,11 +223,12 @@ pub fn dwell(
     if b < a {
         return Answer::Refused(Refusal::RanksFall);
     }
-    let from = position(words, summary, inventory, spill, a);
+    let plan = summary.plan;
+    let from = finish(words, plan, mark_of(summary, inventory, spill, a));
     let Answer::Value(p) = from else {
         return from;
     };
-    let to = position(words, summary, inventory, spill, b);
+    let to = finish(words, plan, mark_of(summary, inventory, spill, b));
     let Answer::Value(o) = to else {
         return to;
     };

@@ -11,7 +11,6 @@ use crate::Summary;
 use rank_sel::Refusal;
 use rank_sel::pow2;
 use rank_sel::saturating_sub;
-use select_in_word::low_bits;
 use spacing::MAX_LOG2_WORDS_PER_SUBINVENTORY;
 use spacing::Parameters;
 
@@ -28,7 +27,8 @@ pub(crate) fn ceil_shift(n: u64, k: u32) -> u64
     (n + (pow2(k) - 1)) >> k
 }
 
-// The rule's count may pass 2^64: it is taken off the given one, and never reckoned.
+// The rule's count may pass 2^64: it is taken off the given one, and never reckoned. The last shift drops no bit, since
+// entries * 2^m is at most own there.
 fn is_inventory_len(plan: Parameters, inventory_len: u64) -> bool
     requires { ⌜ (plan .num < 2 ^ 62) × (plan .«log2_ones_per_inventory» < 64) × (plan .«log2_words_per_subinventory» < 64) ⌝ }
     ensures { λ r. ⌜ r ≡ eqb «inventory_len» (inventoryLenOf plan) ⌝ }
@@ -38,10 +38,10 @@ fn is_inventory_len(plan: Parameters, inventory_len: u64) -> bool
         return false;
     }
     let own = inventory_len - entries - 1;
-    if low_bits(own, plan.log2_words_per_subinventory as u64) != 0 {
+    if own >> plan.log2_words_per_subinventory != entries {
         return false;
     }
-    own >> plan.log2_words_per_subinventory == entries
+    entries << plan.log2_words_per_subinventory == own
 }
 
 // The one place for the rules of a summary, refusal 9.

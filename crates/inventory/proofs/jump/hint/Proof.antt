@@ -1,6 +1,6 @@
 use mathlib.Core.Path.{_∙_}
 use borrow.Author.Needs.{needs}
-use Rattle.inventory.proofs.Answers.{Passes, ReadAs, passes-by, refuses-by, passed, passed-then, refused-then, read-by, unread-by, decode-none, decode-as, residue-low}
+use Rattle.inventory.proofs.Answers.{Passes, MarkedAs, passes-by, refuses-by, passed, passed-then, refused-then, marked-by, unmarked-by, decode-none, decode-as, residue-low}
 use Rattle.inventory.specs.Read.{decode, hintOf}
 use Rattle.inventory.proofs.jump.hint.Statement.{statement}
 use Rattle.inventory.proofs.jump.hint.Tie as tie
@@ -8,8 +8,8 @@ use Rattle.inventory.proofs.jump.hint.Tie as tie
 passes : (c : tie.After-enum-told) → Passes (c .before .before .before .before .before .before .args .words .now) (c .before .before .before .before .before .before .args .summary) (c .before .before .before .before .before .before .args .inventory .now) (c .before .before .before .before .before .before .args .spill .now) (c .before .before .before .before .before .before .args .rank)
 passes c = passes-by (c .before .before .test-call .result) (c .enum-told .given .1) (c .before .before .test-call .ensures)
 
-read : (c : tie.After-decoded) → ReadAs (c .before .before .before .before .before .before .before .before .before .args .summary) (c .before .before .before .before .before .before .before .before .before .args .inventory .now) (c .before .before .before .before .before .before .before .before .before .args .spill .now) (c .before .before .before .before .before .before .before .before .before .args .rank) (c .decoded .given .0 .0)
-read c = read-by (c .before .before .decode .result) (c .decoded .given .0 .0) (c .decoded .given .1) (c .before .before .decode .ensures)
+marks : (c : tie.After-mark) → MarkedAs (c .before .before .before .before .before .before .before .before .before .args .summary) (c .before .before .before .before .before .before .before .before .before .args .inventory .now) (c .before .before .before .before .before .before .before .before .before .args .spill .now) (c .before .before .before .before .before .before .before .before .before .args .rank) (c .mark .given .0 .0) (c .mark .given .0 .1 .0) (c .mark .given .0 .1 .1 .0)
+marks c = marked-by (c .before .before .mark-of .result) _ _ _ (c .mark .given .1) (c .before .before .mark-of .ensures)
 
 test-call-requires : tie.Need-test-call-requires
 test-call-requires c κs = search needs
@@ -25,35 +25,27 @@ reason-requires c κs = search needs
 
 returns : tie.Need-returns
 unfolding hintOf
-returns c =
-    let a = c .before .before .before .before .before .before .before .args in
-    refused-then (refuses-by (c .before .before .before .test-call .result) _ (c .reason .result) (c .before .enum-told2 .given .1) (c .reason .ensures) (c .before .before .before .test-call .ensures))
-    (decode (a .summary) (a .inventory .now) (a .spill .now) (a .rank))
+returns c = refused-then (refuses-by (c .before .before .before .test-call .result) _ (c .reason .result) (c .before .enum-told2 .given .1) (c .reason .ensures) (c .before .before .before .test-call .ensures)) (decode (c .before .before .before .before .before .before .before .args .summary) (c .before .before .before .before .before .before .before .args .inventory .now) (c .before .before .before .before .before .before .before .args .spill .now) (c .before .before .before .before .before .before .before .args .rank))
 
-decode-requires : tie.Need-decode-requires
-decode-requires c κs = passed (passes c) .1
+mark-of-requires : tie.Need-mark-of-requires
+mark-of-requires c κs = passed (passes c) .1
 
-enum-known-decoded : tie.Need-enum-known-decoded
-enum-known-decoded c = search needs
+enum-known-mark : tie.Need-enum-known-mark
+enum-known-mark c = search needs
 
 enum-told-3 : tie.Need-enum-told-3
 enum-told-3 c = search needs
 
 returns-2 : tie.Need-returns-2
 unfolding hintOf
-returns-2 c =
-    let a = c .before .before .before .before .before .before .before .before .before .args in
-    decode-none (unread-by (c .before .before .decode .result) (c .enum-told3 .given .1) (c .before .before .decode .ensures))
-    ∙ passed-then (passes (c .before .before .before)) (decode (a .summary) (a .inventory .now) (a .spill .now) (a .rank))
+returns-2 c = decode-none (unmarked-by (c .before .before .mark-of .result) (c .enum-told3 .given .1) (c .before .before .mark-of .ensures)) ∙ passed-then (passes (c .before .before .before)) (decode (c .before .before .before .before .before .before .before .before .before .args .summary) (c .before .before .before .before .before .before .before .before .before .args .inventory .now) (c .before .before .before .before .before .before .before .before .before .args .spill .now) (c .before .before .before .before .before .before .before .before .before .args .rank))
 
-sub-t11 : tie.Need-sub-t11
-sub-t11 c = residue-low (read (c .before .before))
+sub-t12 : tie.Need-sub-t12
+sub-t12 c = residue-low (marks (c .before))
 
 returns-3 : tie.Need-returns-3
 unfolding hintOf
-returns-3 c =
-    let a = c .before .before .before .before .before .before .before .before .before .before .before .args in
-    decode-as (read (c .before .before)) ∙ passed-then (passes (c .before .before .before .before .before)) (decode (a .summary) (a .inventory .now) (a .spill .now) (a .rank))
+returns-3 c = decode-as (marks (c .before)) ∙ passed-then (passes (c .before .before .before .before)) (decode (c .before .before .before .before .before .before .before .before .before .before .args .summary) (c .before .before .before .before .before .before .before .before .before .before .args .inventory .now) (c .before .before .before .before .before .before .before .before .before .before .args .spill .now) (c .before .before .before .before .before .before .before .before .before .before .args .rank))
 
 pub hint-spec : {M : Type 1} → statement M
 hint-spec =
@@ -64,9 +56,9 @@ hint-spec =
     enum-told-2
     reason-requires
     returns
-    decode-requires
-    enum-known-decoded
+    mark-of-requires
+    enum-known-mark
     enum-told-3
     returns-2
-    sub-t11
+    sub-t12
     returns-3)

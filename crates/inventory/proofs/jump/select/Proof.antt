@@ -1,12 +1,15 @@
 use mathlib.Core.Path.{_∙_}
 use borrow.Author.Needs.{needs}
-use Rattle.inventory.proofs.Answers.{Passes, passes-by, refuses-by, passed, passed-then, refused-then}
+use Rattle.inventory.proofs.Answers.{Passes, MarkRead, position-by, low-by, passes-by, refuses-by, passed, passed-then, refused-then}
 use Rattle.inventory.specs.Read.{positionOf, selectOf}
 use Rattle.inventory.proofs.jump.select.Statement.{statement}
 use Rattle.inventory.proofs.jump.select.Tie as tie
 
 passes : (c : tie.After-enum-told) → Passes (c .before .before .before .before .before .before .args .words .now) (c .before .before .before .before .before .before .args .summary) (c .before .before .before .before .before .before .args .inventory .now) (c .before .before .before .before .before .before .args .spill .now) (c .before .before .before .before .before .before .args .rank)
 passes c = passes-by (c .before .before .test-call .result) (c .enum-told .given .1) (c .before .before .test-call .ensures)
+
+read : (c : tie.After-mark-of) → MarkRead (c .before .before .before .before .before .before .before .before .args .summary) (c .before .before .before .before .before .before .before .before .args .inventory .now) (c .before .before .before .before .before .before .before .before .args .spill .now) (c .before .before .before .before .before .before .before .before .args .rank) (c .mark-of .result)
+read c = record { told = c .mark-of .ensures }
 
 test-call-requires : tie.Need-test-call-requires
 test-call-requires c κs = search needs
@@ -27,14 +30,17 @@ returns c =
     refused-then (refuses-by (c .before .before .before .test-call .result) _ (c .reason .result) (c .before .enum-told2 .given .1) (c .reason .ensures) (c .before .before .before .test-call .ensures))
     (positionOf (a .words .now) (a .summary) (a .inventory .now) (a .spill .now) (a .rank))
 
-position-requires : tie.Need-position-requires
-position-requires c κs = passed (passes c)
+mark-of-requires : tie.Need-mark-of-requires
+mark-of-requires c κs = passed (passes (c .before)) .1
+
+finish-requires : tie.Need-finish-requires
+finish-requires c κs = (passed (passes (c .before .before)) .0, low-by (read c))
 
 returns-2 : tie.Need-returns-2
 unfolding selectOf
 returns-2 c =
-    let a = c .before .before .before .before .before .before .before .args in
-    c .position .ensures ∙ passed-then (passes (c .before)) (positionOf (a .words .now) (a .summary) (a .inventory .now) (a .spill .now) (a .rank))
+    let a = c .before .before .before .before .before .before .before .before .before .args in
+    c .finish .ensures ∙ position-by (read (c .before)) (a .words .now) ∙ passed-then (passes (c .before .before .before)) (positionOf (a .words .now) (a .summary) (a .inventory .now) (a .spill .now) (a .rank))
 
 pub select-spec : {M : Type 1} → statement M
 select-spec =
@@ -45,5 +51,6 @@ select-spec =
     enum-told-2
     reason-requires
     returns
-    position-requires
+    mark-of-requires
+    finish-requires
     returns-2)
