@@ -263,7 +263,11 @@ pub(crate) fn mark_of(summary: Summary, inventory: &[u64], spill: &[u64], rank: 
     let cell = first_cell(plan, rank >> l);
     let start = inventory[cell as usize];
     let SpanType::U16 = kind_of(start) else {
-        return mark_by(decode(summary, inventory, spill, rank));
+        // Copies, so that no other path has to store what this call takes.
+        let own_summary = summary;
+        let own_inventory = inventory;
+        let own_spill = spill;
+        return mark_by(decode(own_summary, own_inventory, own_spill, rank));
     };
     let subrank = low_bits(rank, l as u64);
     let mark = start + quarter_at(inventory, cell + 1, subrank >> s);
