@@ -31,13 +31,13 @@ fn status(refusal: Refusal) -> u32
     edge_index::refusal_number(refusal) as u32
 }
 
-fn is_known(polarity: u32, kind: u32) -> bool
+pub fn is_known(polarity: u32, kind: u32) -> bool
     ensures { λ r. ⌜ r ≡ known polarity kind ⌝ }
 {
     polarity <= 1 && kind <= 4
 }
 
-fn polarity_at(code: u64) -> Polarity
+pub fn polarity_at(code: u64) -> Polarity
     ensures { λ r. ⌜ r ≡ polarityAt code ⌝ }
 {
     if code == 0 {
@@ -57,7 +57,7 @@ fn polarity_code(polarity: Polarity) -> u64
 
 // The library's logarithms are u32. A larger number is refusal 9 of a summary, a no of check, and 3 of a choice; so
 // is the largest u32.
-fn cut(n: u64) -> u32
+pub fn cut(n: u64) -> u32
     ensures { λ r. ⌜ r ≡ cutTo32 n ⌝ }
 {
     if n > 0xffff_ffff {
@@ -66,7 +66,7 @@ fn cut(n: u64) -> u32
     n as u32
 }
 
-fn choice_at(kind: u32, value: u64, percentage: f64, log2: u32) -> Choice
+pub fn choice_at(kind: u32, value: u64, percentage: f64, log2: u32) -> Choice
     ensures { λ r. ⌜ r ≡ choiceAt kind value percentage log2 ⌝ }
 {
     if kind == 0 {
