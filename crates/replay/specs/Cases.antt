@@ -4,7 +4,7 @@ use Prim.Native.Nat.{ℕ, _≤_, _<_}
 use lib.ListN.{length}
 use Rattle.replay.specs.declared.list.Parts.{Parts}
 use Rattle.replay.specs.declared.list.Next.{Next}
-use Rattle.replay.specs.declared.list.Next.the-variants.{Answered, Refused, End, Broken}
+use Rattle.replay.specs.declared.list.Next.the-variants.{Case, End, Broken}
 
 -- each part starts where the one before it ends
 pub record Ordered (p : Parts) : Type 0 where
@@ -20,7 +20,6 @@ pub record PartsIn (list : List ℕ) (p : Parts) : Type 0 where
 
 -- a case lies within the list, and ends past the place at which it was read
 abbrev pub NextIn : List ℕ → ℕ → Next → Type 0
-NextIn list at (Answered q f p) = PartsIn list p × (at < p .end)
-NextIn list at (Refused q n p) = PartsIn list p × (at < p .end)
+NextIn list at (Case c) = PartsIn list (c .parts) × (at < c .parts .end)
 NextIn list at End = Unit {0}
 NextIn list at Broken = Unit {0}

@@ -6,6 +6,7 @@ ghost use Rattle.replay.specs.Selects.{isAt, selectsAlike};
 use crate::cells::alike;
 use crate::cells::blank_from;
 use crate::cells::fill;
+use crate::list::Case;
 use crate::list::Figures;
 use crate::list::Parts;
 use crate::list::Question;
@@ -35,18 +36,13 @@ fn turned_down(tally: Tally, what: &[u8], refusal: Refusal) -> Tally {
     tally.compare(what, refusal_number(refusal), 0)
 }
 
-fn replay_count(
-    tally: Tally,
-    list: &[u64],
-    question: Question,
-    figures: Figures,
-    parts: Parts,
-) -> Tally
-    requires { ⌜ PartsIn (now list) parts ⌝ }
+fn replay_count(tally: Tally, list: &[u64], case: Case) -> Tally
+    requires { ⌜ PartsIn (now list) (case .parts) ⌝ }
 {
+    let question = case.question;
     let polarity = question.polarity;
-    match count(words_of(list, parts), question.len, polarity) {
-        Answer::Value(num) => tally.compare(b"count", num, figures.num),
+    match count(words_of(list, case.parts), question.len, polarity) {
+        Answer::Value(num) => tally.compare(b"count", num, case.figures.num),
         Answer::Refused(refusal) => turned_down(tally, b"refusal of count", refusal),
     }
 }
@@ -62,21 +58,26 @@ fn compare_plan(tally: Tally, plan: Parameters, figures: Figures) -> Tally {
         .compare(b"S", s, figures.log2_ones_per_sub16)
 }
 
-fn replay_plan(
-    tally: Tally,
-    list: &[u64],
-    question: Question,
-    figures: Figures,
-    parts: Parts,
-) -> Tally
-    requires { ⌜ PartsIn (now list) parts ⌝ }
+fn replay_plan(tally: Tally, list: &[u64], case: Case) -> Tally
+    requires { ⌜ PartsIn (now list) (case .parts) ⌝ }
 {
+    let question = case.question;
     let polarity = question.polarity;
     let choice = question.choice;
-    match plan(words_of(list, parts), question.len, polarity, choice) {
-        Planned::Plan(plan) => compare_plan(tally, plan, figures),
+    match plan(words_of(list, case.parts), question.len, polarity, choice) {
+        Planned::Plan(plan) => compare_plan(tally, plan, case.figures),
         Planned::Refused(refusal) => turned_down(tally, b"refusal of plan", refusal),
     }
+}
+
+// Asked only where the Rust answers: count and plan can answer where size and build cannot.
+fn replay_figures(tally: Tally, list: &[u64], case: Case) -> Tally
+    requires { ⌜ PartsIn (now list) (case .parts) ⌝ }
+{
+    if case.refusal != 0 {
+        return tally;
+    }
+    replay_plan(replay_count(tally, list, case), list, case)
 }
 
 fn compare_counts(tally: Tally, inventory_len: u64, spill_len: u64, parts: Parts) -> Tally
@@ -95,35 +96,25 @@ fn compare_counts(tally: Tally, inventory_len: u64, spill_len: u64, parts: Parts
         )
 }
 
-fn replay_size(tally: Tally, list: &[u64], question: Question, parts: Parts) -> Tally
-    requires { ⌜ PartsIn (now list) parts ⌝ }
+fn replay_size(tally: Tally, list: &[u64], case: Case) -> Tally
+    requires { ⌜ PartsIn (now list) (case .parts) ⌝ }
 {
+    let question = case.question;
     let polarity = question.polarity;
     let choice = question.choice;
-    match size(words_of(list, parts), question.len, polarity, choice) {
+    match size(words_of(list, case.parts), question.len, polarity, choice) {
         Sized::Cells(inventory_len, spill_len) => compare_counts(
-            tally,
+            tally.compare(b"refusal of size", 0, case.refusal),
             inventory_len,
             spill_len,
-            parts,
+            case.parts,
         ),
-        Sized::Refused(refusal) => turned_down(tally, b"refusal of size", refusal),
+        Sized::Refused(refusal) => tally.compare(
+            b"refusal of size",
+            refusal_number(refusal),
+            case.refusal,
+        ),
     }
-}
-
-// What the library says before it writes a cell.
-fn replay_figures(
-    tally: Tally,
-    list: &[u64],
-    question: Question,
-    figures: Figures,
-    parts: Parts,
-) -> Tally
-    requires { ⌜ PartsIn (now list) parts ⌝ }
-{
-    let tally = replay_count(tally, list, question, figures, parts);
-    let tally = replay_plan(tally, list, question, figures, parts);
-    replay_size(tally, list, question, parts)
 }
 
 // The first cells have to be the listed ones, and the others as they were.
@@ -140,25 +131,20 @@ fn compare_cells(tally: Tally, what: &[u8], kept: &[u8], cells: &[u64], listed: 
 }
 
 // The built summary with the listed cells.
-fn replay_check(
-    tally: Tally,
-    list: &[u64],
-    question: Question,
-    parts: Parts,
-    summary: Summary,
-) -> Tally
-    requires { ⌜ PartsIn (now list) parts ⌝ }
+fn replay_check(tally: Tally, list: &[u64], case: Case, summary: Summary) -> Tally
+    requires { ⌜ PartsIn (now list) (case .parts) ⌝ }
 {
+    let question = case.question;
     let polarity = question.polarity;
     let choice = question.choice;
     match check(
-        words_of(list, parts),
+        words_of(list, case.parts),
         question.len,
         polarity,
         choice,
         summary,
-        inventory_of(list, parts),
-        spill_of(list, parts),
+        inventory_of(list, case.parts),
+        spill_of(list, case.parts),
     ) {
         Checked::Yes => tally.compare(b"check says yes", 1, 1),
         Checked::No => tally.compare(b"check says yes", 0, 1),
@@ -222,19 +208,13 @@ fn replay_selects(tally: Tally, list: &[u64], parts: Parts, summary: Summary) ->
         .compare(b"selects alike", n as u64, (selects.len() / 2) as u64)
 }
 
-fn replay_summary(
-    tally: Tally,
-    list: &[u64],
-    question: Question,
-    figures: Figures,
-    parts: Parts,
-    summary: Summary,
-) -> Tally
-    requires { ⌜ PartsIn (now list) parts ⌝ }
+fn replay_summary(tally: Tally, list: &[u64], case: Case, summary: Summary) -> Tally
+    requires { ⌜ PartsIn (now list) (case .parts) ⌝ }
 {
-    let tally = compare_plan(tally, summary.plan, figures);
+    let parts = case.parts;
+    let tally = compare_plan(tally, summary.plan, case.figures);
     let tally = compare_counts(tally, summary.inventory_len, summary.spill_len, parts);
-    let tally = replay_check(tally, list, question, parts, summary);
+    let tally = replay_check(tally, list, case, summary);
     replay_selects(tally, list, parts, summary)
 }
 
@@ -255,20 +235,28 @@ fn build_blank(
 fn replay_build(
     tally: Tally,
     list: &[u64],
-    question: Question,
-    figures: Figures,
-    parts: Parts,
+    case: Case,
     inventory: &mut [u64],
     spill: &mut [u64],
 ) -> Tally
-    requires { ⌜ PartsIn (now list) parts ⌝ }
+    requires { ⌜ PartsIn (now list) (case .parts) ⌝ }
 {
-    match build_blank(words_of(list, parts), question, inventory, spill) {
-        Built::Summary(summary) => replay_summary(tally, list, question, figures, parts, summary),
-        Built::Refused(refusal) => turned_down(tally, b"refusal of build", refusal),
+    match build_blank(words_of(list, case.parts), case.question, inventory, spill) {
+        Built::Summary(summary) => replay_summary(
+            tally.compare(b"refusal of build", 0, case.refusal),
+            list,
+            case,
+            summary,
+        ),
+        Built::Refused(refusal) => tally.compare(
+            b"refusal of build",
+            refusal_number(refusal),
+            case.refusal,
+        ),
     }
 }
 
+// A case without listed cells is turned down: every lent cell has to be as it was.
 fn compare_index(
     tally: Tally,
     list: &[u64],
@@ -294,82 +282,17 @@ fn compare_index(
     )
 }
 
-// A case that the Rust answers.
-pub(crate) fn replay_answered(
+pub(crate) fn replay_case(
     tally: Tally,
     list: &[u64],
-    question: Question,
-    figures: Figures,
-    parts: Parts,
+    case: Case,
     inventory: &mut [u64],
     spill: &mut [u64],
 ) -> Tally
-    requires { ⌜ PartsIn (now list) parts ⌝ }
+    requires { ⌜ PartsIn (now list) (case .parts) ⌝ }
 {
-    let tally = replay_figures(tally.with_case(), list, question, figures, parts);
-    let tally = replay_build(tally, list, question, figures, parts, inventory, spill);
-    compare_index(tally, list, parts, inventory, spill)
-}
-
-fn refusal_of_size(sized: Sized) -> u64 {
-    match sized {
-        Sized::Cells(_, _) => 0,
-        Sized::Refused(refusal) => refusal_number(refusal),
-    }
-}
-
-fn refusal_of_build(built: Built) -> u64 {
-    match built {
-        Built::Summary(_) => 0,
-        Built::Refused(refusal) => refusal_number(refusal),
-    }
-}
-
-fn replay_refused_size(
-    tally: Tally,
-    list: &[u64],
-    question: Question,
-    refusal: u64,
-    parts: Parts,
-) -> Tally
-    requires { ⌜ PartsIn (now list) parts ⌝ }
-{
-    let polarity = question.polarity;
-    let choice = question.choice;
-    let sized = size(words_of(list, parts), question.len, polarity, choice);
-    tally.compare(b"refusal of size", refusal_of_size(sized), refusal)
-}
-
-fn replay_refused_build(
-    tally: Tally,
-    list: &[u64],
-    question: Question,
-    refusal: u64,
-    parts: Parts,
-    inventory: &mut [u64],
-    spill: &mut [u64],
-) -> Tally
-    requires { ⌜ PartsIn (now list) parts ⌝ }
-{
-    let built = build_blank(words_of(list, parts), question, inventory, spill);
-    tally.compare(b"refusal of build", refusal_of_build(built), refusal)
-}
-
-// A case that is turned down for its record, its choice, or an inventory longer than any slice. It has no listed cells,
-// so every lent one has to be as it was.
-pub(crate) fn replay_refused(
-    tally: Tally,
-    list: &[u64],
-    question: Question,
-    refusal: u64,
-    parts: Parts,
-    inventory: &mut [u64],
-    spill: &mut [u64],
-) -> Tally
-    requires { ⌜ PartsIn (now list) parts ⌝ }
-{
-    let tally = tally.with_case().with_refused();
-    let tally = replay_refused_size(tally, list, question, refusal, parts);
-    let tally = replay_refused_build(tally, list, question, refusal, parts, inventory, spill);
-    compare_index(tally, list, parts, inventory, spill)
+    let tally = replay_figures(tally.with_case(case.refusal), list, case);
+    let tally = replay_size(tally, list, case);
+    let tally = replay_build(tally, list, case, inventory, spill);
+    compare_index(tally, list, case.parts, inventory, spill)
 }

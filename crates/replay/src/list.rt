@@ -38,9 +38,16 @@ pub(crate) struct Parts {
     pub(crate) end: usize,
 }
 
+// The refusal is 0 where the Rust answers. Where it does not, the figures are 0, and the parts after the words empty.
+pub(crate) struct Case {
+    pub(crate) question: Question,
+    pub(crate) refusal: u64,
+    pub(crate) figures: Figures,
+    pub(crate) parts: Parts,
+}
+
 pub(crate) enum Next {
-    Answered(Question, Figures, Parts),
-    Refused(Question, u64, Parts),
+    Case(Case),
     End,
     Broken,
 }
@@ -109,7 +116,18 @@ fn read_refused(list: &[u64], at: usize) -> Next
         selects: end,
         end,
     };
-    Next::Refused(read_question(list, at), list[at + 7], parts)
+    let figures = Figures {
+        num: 0,
+        log2_ones_per_inventory: 0,
+        log2_words_per_subinventory: 0,
+        log2_ones_per_sub16: 0,
+    };
+    Next::Case(Case {
+        question: read_question(list, at),
+        refusal: list[at + 7],
+        figures,
+        parts,
+    })
 }
 
 fn read_answered(list: &[u64], at: usize) -> Next
@@ -140,7 +158,12 @@ fn read_answered(list: &[u64], at: usize) -> Next
         selects,
         end,
     };
-    Next::Answered(read_question(list, at), read_figures(list, at + 8), parts)
+    Next::Case(Case {
+        question: read_question(list, at),
+        refusal: 0,
+        figures: read_figures(list, at + 8),
+        parts,
+    })
 }
 
 // What stands at a place of the list. The end mark is its last number.

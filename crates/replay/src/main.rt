@@ -8,8 +8,7 @@ mod cells;
 mod list;
 mod tally;
 
-use answers::replay_answered;
-use answers::replay_refused;
+use answers::replay_case;
 use find_edge_lib::Capture;
 use find_edge_lib::read_capture;
 use libc::STDIN_FILENO;
@@ -38,15 +37,10 @@ fn replay_next(
 {
     let tally = progress.tally;
     match read_next(list, progress.at) {
-        Next::Answered(question, figures, parts) => Progress {
-            at: parts.end,
+        Next::Case(case) => Progress {
+            at: case.parts.end,
             ended: false,
-            tally: replay_answered(tally, list, question, figures, parts, inventory, spill),
-        },
-        Next::Refused(question, refusal, parts) => Progress {
-            at: parts.end,
-            ended: false,
-            tally: replay_refused(tally, list, question, refusal, parts, inventory, spill),
+            tally: replay_case(tally, list, case, inventory, spill),
         },
         Next::End => Progress {
             at: list.len(),

@@ -45,13 +45,11 @@ impl Tally {
         }
     }
 
-    pub(crate) fn with_case(mut self) -> Self {
+    pub(crate) fn with_case(mut self, refusal: u64) -> Self {
         self.cases = saturating_add(self.cases, 1);
-        self
-    }
-
-    pub(crate) fn with_refused(mut self) -> Self {
-        self.refused = saturating_add(self.refused, 1);
+        if refusal != 0 {
+            self.refused = saturating_add(self.refused, 1);
+        }
         self
     }
 
