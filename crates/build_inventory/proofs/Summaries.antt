@@ -1,5 +1,5 @@
 -- The comparison of summaries is exact.
-use mathlib.Core.Bool.{Bool, true, false, _&&_, false≢true}
+use mathlib.Core.Bool.{true, and-eq-true-iff, false≢true}
 use mathlib.Core.Path.{_≡_, refl}
 use lib.Dec.{eqb}
 use borrow.Author.Tests.{eq-eqb, eqb-true}
@@ -9,11 +9,6 @@ use Rattle.spacing.specs.Spacing.{N, L, M, S}
 use Rattle.spacing.specs.declared.Parameters.{Parameters}
 use Rattle.inventory.specs.declared.Summary.{Summary}
 use Rattle.build_inventory.specs.Build.{samePolarity, samePlan, sameSummary}
-
-and-true : (a b : Bool) → a && b ≡ true → (a ≡ true) × (b ≡ true)
-and-true true true e = (refl, refl)
-and-true true false e = (refl, e)
-and-true false b e = (e, absurd (false≢true e))
 
 polarity-is : (a b : Polarity) → samePolarity a b ≡ true → a ≡ b
 polarity-is Ones Ones e = refl
@@ -28,11 +23,11 @@ polarity-same Zeros = refl
 plan-is : (p q : Parameters) → samePlan p q ≡ true → p ≡ q
 unfolding samePlan
 plan-is p q e =
-    let s = and-true _ (eqb (S p) (S q)) e in
-    let m = and-true _ (eqb (M p) (M q)) (s .0) in
-    let l = and-true _ (eqb (L p) (L q)) (m .0) in
-    let n = and-true _ (eqb (N p) (N q)) (l .0) in
-    let k = and-true (samePolarity (p .polarity) (q .polarity)) (eqb (p .len) (q .len)) (n .0) in
+    let s = and-eq-true-iff _ (eqb (S p) (S q)) .0 e in
+    let m = and-eq-true-iff _ (eqb (M p) (M q)) .0 (s .0) in
+    let l = and-eq-true-iff _ (eqb (L p) (L q)) .0 (m .0) in
+    let n = and-eq-true-iff _ (eqb (N p) (N q)) .0 (l .0) in
+    let k = and-eq-true-iff (samePolarity (p .polarity) (q .polarity)) (eqb (p .len) (q .len)) .0 (n .0) in
     λ i. record {
       polarity = polarity-is (p .polarity) (q .polarity) (k .0) i;
       len = eqb-true (p .len) (q .len) (k .1) i;
@@ -45,8 +40,8 @@ plan-is p q e =
 pub summary-is : (t u : Summary) → sameSummary t u ≡ true → t ≡ u
 unfolding sameSummary
 summary-is t u e =
-    let s = and-true _ (eqb (t .«spill_len») (u .«spill_len»)) e in
-    let v = and-true (samePlan (t .plan) (u .plan)) (eqb (t .«inventory_len») (u .«inventory_len»)) (s .0) in
+    let s = and-eq-true-iff _ (eqb (t .«spill_len») (u .«spill_len»)) .0 e in
+    let v = and-eq-true-iff (samePlan (t .plan) (u .plan)) (eqb (t .«inventory_len») (u .«inventory_len»)) .0 (s .0) in
     λ i. record {
       plan = plan-is (t .plan) (u .plan) (v .0) i;
       «inventory_len» = eqb-true (t .«inventory_len») (u .«inventory_len») (v .1) i;

@@ -1,5 +1,5 @@
 -- The promises.
-use mathlib.Core.Bool.{Bool, true, false, _&&_}
+use mathlib.Core.Bool.{true, and-eq-true-iff}
 use mathlib.Core.List.{List, _++_}
 use mathlib.Core.Logic.{_↔_}
 use mathlib.Core.Path.{_≡_, refl, sym, ap, ap₂, _∙_, subst}
@@ -77,8 +77,8 @@ module _ (ws : List ℕ) (len : ℕ) (pol : Polarity) (choice : Choice) where
   yes-back t inv sp e =
       let b = then-answer (buildAnswers ws len pol choice inv sp) _ true e in
       let u = b .0 in
-      let y = and-back (sameSummary t u) _ (answer-is (b .2)) in
-      let z = and-back (sameList (take (inventoryLenOf (u .plan)) inv) (inventoryOf (posIn ws (u .plan)) (u .plan))) _ (y .1) in
+      let y = and-eq-true-iff (sameSummary t u) _ .0 (answer-is (b .2)) in
+      let z = and-eq-true-iff (sameList (take (inventoryLenOf (u .plan)) inv) (inventoryOf (posIn ws (u .plan)) (u .plan))) _ .0 (y .1) in
       let m = admission ws len pol choice (length inv) (length sp) u (b .1) in
       subst (λ (v : Summary). Yes v inv sp) (sym (summary-is t u (y .0))) record {
         builds = b .1;
@@ -87,11 +87,6 @@ module _ (ws : List ℕ) (len : ℕ) (pol : Polarity) (choice : Choice) where
         spill = begins (u .«spill_len») sp (spillOf (posIn ws (u .plan)) (u .plan))
             (ap (λ (n : ℕ). take n sp) (sym (spill-long u (length inv) (length sp) m) ∙ length-spill (posIn ws (u .plan)) (u .plan)) ∙ same-is _ _ (z .1));
       }
-    where
-      and-back : (a b : Bool) → a && b ≡ true → (a ≡ true) × (b ≡ true)
-      and-back true true e = (refl, refl)
-      and-back true false e = (refl, e)
-      and-back false b e = let z : _≡_ {A = ℕ} 0 1 = cc in absurd (omega arith)
 
   yes-on : (t : Summary) (inv sp : List ℕ) → Yes t inv sp → checkOf ws len pol choice t inv sp ≡ answer true
   unfolding checkOf sameIndex

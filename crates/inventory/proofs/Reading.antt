@@ -18,7 +18,7 @@ use Rattle.select_in_word.proofs.Tail.{mask-shr, and-tail}
 use Rattle.inventory.specs.Lanes.{laneOf}
 use Rattle.inventory.specs.Index.{stride}
 use Rattle.inventory.specs.Read.{tagged, startBy, cellAt, kindAt, startAt, spanAt, quantumAt, shapeAt, nearBy, placeAt, numberAt}
-use Rattle.inventory.specs.Steps.{headOf, EntryIn, spacingAt, placed, spotIn, numbered, Shaped, Placed}
+use Rattle.inventory.specs.Steps.{headOf, EntryIn, spacingAt, spotPlace, spotIn, numbered, Shaped, SpotFor}
 use Rattle.inventory.specs.Shape.{log2OnesPerSub32, shapeOf}
 use Rattle.inventory.specs.declared.Shape.{Shape}
 use Rattle.inventory.specs.declared.SpanType.{SpanType}
@@ -86,7 +86,7 @@ module _ (s : Shape) (m i : ℕ) (h : Shaped s) where
   pub near-small : m ≤ 53 → (2 ^ m - s .heads) * s .lanes ≤ 2 ^ 55
   near-small l = mul-le-mul {n₁ = 2 ^ m - s .heads} {m₁ = s .lanes} {n₂ = 2 ^ 53} {m₂ = 4} (omega (arith, pow-mono {i = m} {j = 53} l)) (h .few)
 
-  pub spot-start : i < s .from → Placed s m i Start
+  pub spot-start : i < s .from → SpotFor s m i Start
   spot-start l = record { place = λ c o. simp (lt-ltb i (s .from) l); within = tt }
 
   -- k is the logarithm of the lanes in a cell, and p a power of two, as they were reckoned
@@ -97,7 +97,7 @@ module _ (s : Shape) (m i : ℕ) (h : Shaped s) where
     near-is : s .from + (p - s .heads) * s .lanes ≡ nearBy s m
     near-is = ap (λ (z : ℕ). s .from + (z - s .heads) * s .lanes) ep
 
-    pub spot-own : i < s .from + (p - s .heads) * s .lanes → (j : ℕ) → j ≡ (i - s .from) % 2 ^ k → Placed s m i (Own ((i - s .from) / 2 ^ k) j)
+    pub spot-own : i < s .from + (p - s .heads) * s .lanes → (j : ℕ) → j ≡ (i - s .from) % 2 ^ k → SpotFor s m i (Own ((i - s .from) / 2 ^ k) j)
     spot-own b j ej =
         let l : i < nearBy s m = rw near-is at b in
         record {
@@ -108,7 +108,7 @@ module _ (s : Shape) (m i : ℕ) (h : Shaped s) where
           );
         }
 
-    pub spot-over : s .from + (p - s .heads) * s .lanes ≤ i → (j : ℕ) → j ≡ (i - (s .from + (p - s .heads) * s .lanes)) % 2 ^ k → Placed s m i (Over ((i - (s .from + (p - s .heads) * s .lanes)) / 2 ^ k) j)
+    pub spot-over : s .from + (p - s .heads) * s .lanes ≤ i → (j : ℕ) → j ≡ (i - (s .from + (p - s .heads) * s .lanes)) % 2 ^ k → SpotFor s m i (Over ((i - (s .from + (p - s .heads) * s .lanes)) / 2 ^ k) j)
     spot-over b j ej =
         let l : nearBy s m ≤ i = rw near-is at b in
         record {
@@ -157,7 +157,7 @@ module _ (t : Summary) (inv : List ℕ) (e : ℕ) where
 pub record Spotted (t : Summary) (inv : List ℕ) (e i : ℕ) (h : Head) (s : Shape) (p : Spot) : Type 0 where
   pub head : h ≡ headOf t inv e
   pub shape : s ≡ shapeOf (h .kind) (h .start)
-  pub place : Placed s (M (t .plan)) i p
+  pub place : SpotFor s (M (t .plan)) i p
   pub lent : EntryIn t inv e
 
 module _ {t : Summary} {inv : List ℕ} {e i : ℕ} {h : Head} {s : Shape} {p : Spot} (w : Spotted t inv e i h s p) where
@@ -165,9 +165,9 @@ module _ {t : Summary} {inv : List ℕ} {e i : ℕ} {h : Head} {s : Shape} {p : 
   unfolding shapeAt
   shape-is = w .shape ∙ ap (λ (x : Head). shapeOf (x .kind) (x .start)) (w .head)
 
-  place-as : (q : Spot) → p ≡ q → placeAt t inv e i ≡ placed q (h .cell + 1 + s .heads) (getD inv (h .cell + 1) 0)
+  place-as : (q : Spot) → p ≡ q → placeAt t inv e i ≡ spotPlace q (h .cell + 1 + s .heads) (getD inv (h .cell + 1) 0)
   unfolding placeAt cellAt
-  place-as q eq = sym (ap (λ (x : Spot). placed x (h .cell + 1 + s .heads) (getD inv (h .cell + 1) 0)) (sym eq) ∙ w .place .place (h .cell + 1 + s .heads) (getD inv (h .cell + 1) 0) ∙ simp (w .head, shape-is))
+  place-as q eq = sym (ap (λ (x : Spot). spotPlace x (h .cell + 1 + s .heads) (getD inv (h .cell + 1) 0)) (sym eq) ∙ w .place .place (h .cell + 1 + s .heads) (getD inv (h .cell + 1) 0) ∙ simp (w .head, shape-is))
 
   cell-is : h .cell ≡ e * stride (t .plan)
   cell-is = ap (λ (x : Head). x .cell) (w .head)

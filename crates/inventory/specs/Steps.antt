@@ -93,10 +93,10 @@ pub record Shaped (s : Shape) : Type 0 where
   pub within : (j : ℕ) → j < s .lanes → s .width * j < 64
 
 -- a spot counts its cell from the first that holds lanes: the entry's own from c on, its spilled ones from o on
-abbrev pub placed : Spot → ℕ → ℕ → Place
-placed Spot·v.Start c o = start
-placed (Spot·v.Own n j) c o = own (c + n) j
-placed (Spot·v.Over n j) c o = over (o + n) j
+abbrev pub spotPlace : Spot → ℕ → ℕ → Place
+spotPlace Spot·v.Start c o = start
+spotPlace (Spot·v.Own n j) c o = own (c + n) j
+spotPlace (Spot·v.Over n j) c o = over (o + n) j
 
 -- its own cell is one of the entry's 2^m, and its lane is in the cell
 abbrev pub spotIn : Shape → ℕ → Spot → Type 0
@@ -104,8 +104,8 @@ spotIn s m Spot·v.Start = Unit {0}
 spotIn s m (Spot·v.Own n j) = (s .heads + n < 2 ^ m) × (j < s .lanes)
 spotIn s m (Spot·v.Over n j) = j < s .lanes
 
-pub record Placed (s : Shape) (m i : ℕ) (p : Spot) : Type 0 where
-  pub place : (c o : ℕ) → placed p c o ≡ placeBy s m c o i
+pub record SpotFor (s : Shape) (m i : ℕ) (p : Spot) : Type 0 where
+  pub place : (c o : ℕ) → spotPlace p c o ≡ placeBy s m c o i
   pub within : spotIn s m p
 
 abbrev pub isOver : Place → Bool

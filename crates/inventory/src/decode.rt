@@ -6,7 +6,7 @@ ghost use Rattle.spacing.specs.Spacing.{maxLog2Words};
 ghost use Rattle.inventory.specs.Index.{stride};
 ghost use Rattle.inventory.specs.Lanes.{laneOf};
 ghost use Rattle.inventory.specs.Read.{spanAt, startBy, tagged};
-ghost use Rattle.inventory.specs.Steps.{EntryIn, HeadIn, Placed, Readable, Shaped, decoded, headOf, marked, marking, numberOfMark, readingOf, spaced, spacingAt};
+ghost use Rattle.inventory.specs.Steps.{EntryIn, HeadIn, SpotFor, Readable, Shaped, decoded, headOf, marked, marking, numberOfMark, readingOf, spaced, spacingAt};
 use crate::Shape;
 use crate::SpanType;
 use crate::Summary;
@@ -145,7 +145,7 @@ fn quantum_at(summary: Summary, inventory: &[u64], head: Head) -> Spaced
 // Where the number of mark i stands.
 fn place_of(shape: Shape, log2_words_per_subinventory: u32, i: u64) -> Spot
     requires { ⌜ Shaped shape × («log2_words_per_subinventory» ≤ maxLog2Words) ⌝ }
-    ensures { λ r. ⌜ Placed shape «log2_words_per_subinventory» i r ⌝ }
+    ensures { λ r. ⌜ SpotFor shape «log2_words_per_subinventory» i r ⌝ }
 {
     if i < shape.from {
         return Spot::Start;
