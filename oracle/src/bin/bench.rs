@@ -12,7 +12,7 @@ use sux::rank_sel::{SelectAdapt, SelectZeroAdapt};
 use sux::traits::BitVecOps;
 use sux::traits::rank_sel::{AddNumBits, Select, SelectZero};
 
-const USAGE: &str = "bench [--small] [--huge] [--runs N]";
+const USAGE: &str = "bench [--small] [--huge] [--runs N] | bench --ours build|check|random|rising LOG2 HALVINGS";
 const COLUMNS: [&str; 5] = ["count", "build", "check / build", "select, random", "select, rising"];
 const QUERIES: u64 = 1 << 20;
 
@@ -21,8 +21,15 @@ fn main() -> ExitCode {
         eprintln!("build with --release and without bmi2");
         return ExitCode::from(2);
     }
+    let args: Vec<String> = std::env::args().skip(1).collect();
+    if let [flag, call, log2, halvings] = &args[..]
+        && flag == "--ours"
+        && let (Ok(log2), Ok(halvings)) = (log2.parse(), halvings.parse())
+    {
+        return ours(call, log2, halvings);
+    }
     let (mut sizes, mut huge, mut runs) = (vec![20, 26, 30], false, 6);
-    let mut args = std::env::args().skip(1);
+    let mut args = args.into_iter();
     while let Some(arg) = args.next() {
         match (arg.as_str(), &mut args) {
             ("--small", _) => sizes = vec![20, 26],
@@ -59,6 +66,46 @@ fn usage() -> ExitCode {
     ExitCode::from(2)
 }
 
+/// One bit in 2^halvings is selected; for zeros all words are complemented.
+fn sparse(log2: u32, halvings: u32, polarity: u32, random: &Random) -> Vec<u64> {
+    let flip = if polarity == model::ZEROS { u64::MAX } else { 0 };
+    let word = |_| (0..halvings).fold(u64::MAX, |word, _| word & random.next()) ^ flip;
+    (0..1usize << (log2 - 6)).map(word).collect()
+}
+
+fn rising(n: u64) -> Vec<u64> {
+    (0..QUERIES).map(|i| (i as u128 * n as u128 / QUERIES as u128) as u64).collect()
+}
+
+/// Our call alone, over and over for two seconds, for a profiler to watch.
+fn ours(call: &str, log2: u32, halvings: u32) -> ExitCode {
+    let random = Random::new(5);
+    let words = sparse(log2, halvings, model::ONES, &random);
+    let record = Record { words: &words, len: 1 << log2, polarity: model::ONES };
+    let choice = cases::default();
+    let (inventory_len, spill_len) = record.size(&choice).expect("a lawful record");
+    let (mut inventory, mut spill) = (vec![1; inventory_len as usize], vec![1; spill_len as usize]);
+    let summary = record.build(&choice, &mut inventory, &mut spill).unwrap();
+    let n = record.count().unwrap();
+    let ranks = if call == "random" { (0..QUERIES).map(|_| random.below(n)).collect() } else { rising(n) };
+    let started = Instant::now();
+    let mut times = 0;
+    while started.elapsed().as_secs() < 2 {
+        times += 1;
+        match call {
+            "build" => drop(black_box(record.build(&choice, &mut inventory, &mut spill))),
+            "check" => drop(black_box(record.check(&choice, &summary, &inventory, &spill))),
+            "random" | "rising" => {
+                let index = Index { words: &words, summary: &summary, inventory: &inventory, spill: &spill };
+                black_box(ranks.iter().map(|&rank| index.select(rank).unwrap()).fold(0, u64::wrapping_add));
+            }
+            _ => return usage(),
+        }
+    }
+    println!("{call}: {times} times in {:.2} s", started.elapsed().as_secs_f64());
+    ExitCode::SUCCESS
+}
+
 #[derive(Default)]
 struct Table {
     /// For each row its name and ratios.
@@ -68,10 +115,7 @@ struct Table {
 impl Table {
     fn row(&mut self, log2: u32, halvings: u32, polarity: u32, runs: u32) {
         let random = Random::new(5);
-        // One bit in 2^halvings is selected; for zeros all words are complemented.
-        let flip = if polarity == model::ZEROS { u64::MAX } else { 0 };
-        let sparse = |_| (0..halvings).fold(u64::MAX, |word, _| word & random.next()) ^ flip;
-        let words: Vec<u64> = (0..1usize << (log2 - 6)).map(sparse).collect();
+        let words = sparse(log2, halvings, polarity, &random);
         // The smallest is over in microseconds: more runs for a steady best.
         let runs = if log2 <= 20 { 8 * runs } else { runs };
         let times = measure(&words, 1 << log2, polarity, &random, runs);
@@ -110,7 +154,7 @@ fn measure(words: &[u64], len: u64, polarity: u32, random: &Random, runs: u32) -
     let (mut inventory, mut spill) = (vec![1; inventory_len as usize], vec![1; spill_len as usize]);
     let n = record.count().expect("a lawful record");
     let random_ranks: Vec<u64> = (0..QUERIES).map(|_| random.below(n)).collect();
-    let rising_ranks: Vec<u64> = (0..QUERIES).map(|i| (i as u128 * n as u128 / QUERIES as u128) as u64).collect();
+    let rising_ranks = rising(n);
 
     let bits = BitVec::new(words, len as usize);
     let theirs: AddNumBits<_> = bits.into();
