@@ -1,9 +1,9 @@
 -- Seeking in a record, as the loop over its words does.
-use mathlib.Core.Path.{_≡_, refl, sym, ap, _∙_}
+use mathlib.Core.Path.{_≡_, sym, ap, _∙_}
 use mathlib.Core.Logic.{inl, inr, ⊎-elim}
 use mathlib.Core.Bool.{Bool, true}
 use mathlib.Core.List.{List}
-use mathlib.Core.Option.{Option, none, some}
+use mathlib.Core.Option.{none, some}
 use Prim.Native.Nat.{ℕ, _+_, _-_, _*_, _/_, _%_, _^_, _≤_, _<_}
 use native.Mathlib.Nat.{lt-of-lt-of-le}
 use native.Mathlib.Omega.{arith}
@@ -12,8 +12,7 @@ use lib.Pow.{pow-mono}
 use Rattle.rank_sel.specs.Rank.{rank}
 use Rattle.rank_sel.specs.Seek.{seek, Sought}
 use Rattle.rank_sel.proofs.Numbers.{lt-or-le}
-use Rattle.rank_sel.proofs.Rank.{rank-lt}
-use Rattle.rank_sel.proofs.Seek.{seek-at, seek-empty, seek-found, seek-none}
+use Rattle.rank_sel.proofs.Seek.{seek-at, seek-empty}
 use Rattle.select_in_word.specs.Bit.{bit}
 use Rattle.select_in_word.specs.Holds.{Holds}
 use Rattle.select_in_word.specs.Select.{seekInWord}
@@ -66,18 +65,3 @@ pub before-from : (f : ℕ → Bool) (p w : ℕ) → Holds 64 f (64 * (p / 64)) 
 before-from f p w h =
     let b : p ≡ 64 * (p / 64) + p % 64 = omega arith in
     ap (rank f) b ∙ holds-ones (p % 64) f (64 * (p / 64)) (w % 2 ^ (p % 64)) (holds-less 64 f (64 * (p / 64)) w (p % 64) h (omega arith))
-
--- a seek from any other place, before it or behind, with as many left to pass from there, finds the same
-module _ (pol : Polarity) (ws : List ℕ) (len from k at r : ℕ) where
-  abbrev f : ℕ → Bool
-  f = selected pol ws len
-
-  pub record-same : rank f at + r ≡ rank f from + k → seek f (len - at) at r ≡ seek f (len - from) from k
-  record-same e = go (seek f (len - at) at r) refl
-    where
-      go : (s : Option ℕ) → seek f (len - at) at r ≡ s → seek f (len - at) at r ≡ seek f (len - from) from k
-      go (some p) q =
-          let s = seek-found f (len - at) at r p q in
-          let l : from ≤ p = ⊎-elim (λ (h : p < from). absurd (omega (arith, s .before, rank-lt f p from (s .here) h))) (λ (h : from ≤ p). h) (lt-or-le p from) in
-          q ∙ record-at pol ws len from k p l (s .here) (omega (arith, s .before))
-      go none q = q ∙ record-none pol ws len from k (at + (len - at)) (omega arith) (omega (arith, seek-none f (len - at) at r q))

@@ -8,7 +8,7 @@ use native.Mathlib.Nat.{mod-one, div-lt-iff-lt-mul}
 use native.Mathlib.Omega.{arith}
 use lib.ListN.{length}
 use borrow.Author.Tests.{lt-ltb, le-ltb, lt-leb, le-leb, eq-eqb}
-use Rattle.rank_sel.specs.Numbers.{ceilDiv}
+use Rattle.rank_sel.specs.Numbers.{ceilDiv, sum}
 use Rattle.rank_sel.specs.Outcome.{Outcome, answer, orRefuse}
 use Rattle.rank_sel.specs.Rank.{rank}
 use Rattle.rank_sel.specs.Seek.{select}
@@ -21,7 +21,6 @@ use Rattle.spacing.specs.declared.Choice.{Choice}
 use Rattle.spacing.specs.declared.Parameters.{Parameters}
 use Rattle.spacing.proofs.Facts.{PlanFacts, plan-facts, plan-num}
 use Rattle.inventory.specs.Index.{entriesOf, stride, inventoryLenOf, kindOf, entryOf}
-use Rattle.inventory.specs.Lanes.{sum}
 use Rattle.inventory.specs.Read.{cellAt, shapeAt, spilledAt, nearBy, placeAt, markNumber, residual, finish, positionOf, unlawful, tested, selectOf, hintOf, dwellOf, partBy, subinventoryOf}
 use Rattle.inventory.specs.declared.Shape.{Shape}
 use Rattle.inventory.specs.declared.SpanType.{SpanType}

@@ -1,7 +1,7 @@
 -- The table, by computation.
 use mathlib.Core.Path.{refl}
 use lib.Ieee.{ofInt, mul, div, toUnsigned}
-use Rattle.rank_sel.specs.Numbers.{clog2, firstFrom, ilog2}
+use Rattle.rank_sel.specs.Numbers.{clog2, firstFrom, ilog2, sum}
 use Rattle.rank_sel.specs.Rank.{rank}
 use Rattle.rank_sel.specs.Seek.{seek, select}
 use Rattle.select_in_word.specs.Bit.{bit}
@@ -9,7 +9,7 @@ use Rattle.select_in_word.specs.Select.{selectInWord}
 use Rattle.bit_record.specs.Record.{bitAt, selected, numSelected, countOf}
 use Rattle.spacing.specs.Spacing.{cappedLog2Words, chosenPlan, overheadSpan, overheadTarget, planFor, planOf, spanLog2}
 use Rattle.inventory.specs.Index.{bound, entriesOf, entryFrom, entryOf, inventoryLenOf, inventoryOf, inventoryTo, lane, mark, ownCells, packed, ranksOf, spillCells, spillOf, spillStart, spillTo, startOf, stream, summaryOf}
-use Rattle.inventory.specs.Lanes.{laneOf, pack, sum, tabulate}
+use Rattle.inventory.specs.Lanes.{laneOf, pack, tabulate}
 use Rattle.inventory.specs.Read.{cellAt, decode, dwellOf, kindAt, markAt, markNumber, numberAt, placeAt, positionOf, quantumAt, residual, selectOf, shapeAt, spanAt, startAt, tested, unlawful}
 use Rattle.inventory.specs.Shape.{log2OnesPerSub32}
 use Rattle.build_inventory.specs.Build.{buildOf, checkOf, fitted, measured, samePlan, sameSummary}

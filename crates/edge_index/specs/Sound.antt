@@ -5,6 +5,7 @@ use mathlib.Core.Path.{_≡_}
 use Prim.Native.Nat.{ℕ, suc, _+_, _-_, _*_, _/_, _%_, _^_, _≤_, _<_, min, max}
 use lib.Dec.{ltb}
 use lib.ListN.{length, getD}
+use Rattle.rank_sel.specs.Numbers.{sum}
 use Rattle.rank_sel.specs.Outcome.{answer}
 use Rattle.rank_sel.specs.Rank.{rank}
 use Rattle.rank_sel.specs.Seek.{select}
@@ -14,7 +15,6 @@ use Rattle.spacing.specs.Spacing.{N, L, M, planOf}
 use Rattle.spacing.specs.declared.Choice.{Choice}
 use Rattle.spacing.specs.declared.Parameters.{Parameters}
 use Rattle.inventory.specs.Index.{entriesOf, stride, kindOf, entryOf}
-use Rattle.inventory.specs.Lanes.{sum}
 use Rattle.inventory.specs.Read.{cellAt, kindAt, startAt, quantumAt, nearBy, placeAt, numberAt, decode}
 use Rattle.inventory.specs.declared.SpanType.the-variants.{U16}
 use Rattle.inventory.specs.declared.Summary.{Summary}

@@ -2,7 +2,6 @@
 use mathlib.Core.Path.{_≡_, sym, ap, _∙_}
 use mathlib.Core.List.{_++_}
 use Prim.Native.Nat.{ℕ, zero, suc, _+_, _*_, _^_, _≤_, _<_}
-use native.Mathlib.Decide.{le-ind}
 use native.Mathlib.Nat.{zero-mul, suc-mul}
 use native.Mathlib.Numerals.{add-one}
 use native.Mathlib.Omega.{arith}
@@ -13,7 +12,8 @@ use Rattle.spacing.specs.declared.Parameters.{Parameters}
 use Rattle.inventory.specs.Index.{entriesOf, stride, entryOf, ownCells, spillCells, spillStart, inventoryTo, spillTo}
 use Rattle.inventory.proofs.Marks.{few-heads, few-spilled, own-length, spill-length}
 use Rattle.rank_sel.proofs.Ceil.{ceil-lt}
-use Rattle.inventory.proofs.Lanes.{turn-more, sum-none, sum-more}
+use Rattle.rank_sel.proofs.Numbers.{sum-zero, sum-suc, sum-mono}
+use Rattle.inventory.proofs.Lanes.{turn-more}
 
 pub entry-below : (p : Parameters) (e : ℕ) → e < entriesOf p → e * 2 ^ L p < N p
 unfolding entriesOf
@@ -22,15 +22,15 @@ entry-below p e h = ceil-lt e (N p) (2 ^ L p) (pow-pos (L p)) h
 module _ (pos : ℕ → ℕ) (p : Parameters) where
   pub spillStart-none : spillStart pos p 0 ≡ 0
   unfolding spillStart
-  spillStart-none = sum-none _
+  spillStart-none = sum-zero _
 
   pub spillStart-more : (e : ℕ) → spillStart pos p (e + 1) ≡ spillStart pos p e + entryOf pos p e .spilled
   unfolding spillStart
-  spillStart-more e = sum-more _ e
+  spillStart-more e = ap (spillStart pos p) (add-one e) ∙ sum-suc _ e
 
   pub spillStart-mono : (e n : ℕ) → e ≤ n → spillStart pos p e ≤ spillStart pos p n
-  spillStart-mono e n h = le-ind (λ (m : ℕ). spillStart pos p e ≤ spillStart pos p m) (omega arith)
-      (λ m k ih. omega (arith, spillStart-more m, ap (spillStart pos p) (add-one m))) n h
+  unfolding spillStart
+  spillStart-mono e n h = sum-mono _ e n h
 
   -- no more than there are ranks before e
   pub spillStart-few : (e : ℕ) → spillStart pos p e ≤ e * 2 ^ L p

@@ -11,7 +11,7 @@ use lib.ListN.{length, drop, getD, set, length-append, List·getD-append}
 use lib.Pow.{pow-mono, pow-add, shl-exact}
 use lib.Seq.{drop-cons, set-at, getD-at}
 use Rattle.rank_sel.proofs.Numbers.{lt-or-le}
-use Rattle.inventory.specs.Lanes.{pack, tabulate, sum}
+use Rattle.inventory.specs.Lanes.{pack, tabulate}
 
 -- one turn more
 pub turn-more : (i w : ℕ) → (i + 1) * w ≡ i * w + w
@@ -84,12 +84,3 @@ push p l k v e h = rw (drop-cons l k 0 h, set-at p (getD l k 0) (drop (suc k) l)
 pub tab-more : (v : ℕ → ℕ) (l : List ℕ) (i c : ℕ) → i < length l → c ≡ v i → set (tabulate v i ++ drop i l) i c ≡ tabulate v (i + 1) ++ drop (i + 1) l
 unfolding tabulate
 tab-more v l i c h e = rw (e, push (tabulate v i) l i (v i) (tab-length v i) h, add-one)
-
--- ---- sums
-pub sum-none : (v : ℕ → ℕ) → sum v 0 ≡ 0
-unfolding sum
-sum-none v = refl
-
-pub sum-more : (v : ℕ → ℕ) (n : ℕ) → sum v (n + 1) ≡ sum v n + v n
-unfolding sum
-sum-more v n = rw add-one

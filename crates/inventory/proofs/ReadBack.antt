@@ -19,7 +19,7 @@ use Rattle.spacing.specs.Spacing.{L, M, S}
 use Rattle.spacing.specs.declared.Parameters.{Parameters}
 use Rattle.inventory.specs.Index.{entriesOf, stride, ranksOf, entryBy, entryFrom, mark, lane, packed, startOf, spanOf, kindOf, entryOf, spillStart, summaryOf}
 use Rattle.inventory.specs.Lanes.{laneOf}
-use Rattle.inventory.specs.Read.{tagged, startBy, cellAt, kindAt, startAt, spanAt, quantumAt, shapeAt, spilledAt, start, own, over, nearBy, placeAt, numberAt, spanTooSmall, markAt, markNumber, residual, decode}
+use Rattle.inventory.specs.Read.{tagged, startBy, cellAt, kindAt, startAt, spanAt, quantumAt, shapeAt, start, own, over, nearBy, placeAt, numberAt, spanTooSmall, markAt, markNumber, residual, decode}
 use Rattle.inventory.specs.Shape.{fromSpan, log2Quantum, spilledBy, shapeOf}
 use Rattle.inventory.specs.declared.Entry.{Entry}
 use Rattle.inventory.specs.declared.SpanType.{SpanType}
@@ -206,10 +206,6 @@ module _ (pos : ℕ → ℕ) (p : Parameters) (g : Rising pos p) (spaced : S p �
       pub shape-read : shapeAt t inv e ≡ x .shape
       unfolding shapeAt
       shape-read = rw (kind-read, start-read, entry-by pos p e)
-
-      pub spilled-read : spilledAt t inv e ≡ x .spilled
-      unfolding spilledAt summaryOf
-      spilled-read = rw (kind-read, quantum-read, entry-by pos p e)
 
       pub second-read : x .shape .heads ≡ 1 → cellAt t inv e 1 ≡ spillStart pos p e
       unfolding cellAt summaryOf

@@ -2,15 +2,13 @@
 use mathlib.Core.Logic.{_⊎_, inl, inr, ⊎-elim}
 use mathlib.Core.Path.{_≡_}
 use Prim.Native.Nat.{ℕ, zero, suc, _+_, _≤_, _<_}
-use native.Mathlib.Decide.{le-ind}
 use native.Mathlib.Omega.{arith}
-use Rattle.rank_sel.proofs.Numbers.{lt-or-le}
-use Rattle.inventory.specs.Lanes.{sum}
+use Rattle.rank_sel.specs.Numbers.{sum}
+use Rattle.rank_sel.proofs.Numbers.{lt-or-le, sum-suc, sum-mono}
 
 -- a part lies before the end
 pub sum-part : (v : ℕ → ℕ) (e n : ℕ) → e < n → sum v e + v e ≤ sum v n
-unfolding sum
-sum-part v e n h = le-ind (λ (m : ℕ). sum v (suc e) ≤ sum v m) (omega arith) (λ m k i. omega arith) n h
+sum-part v e n h = omega (arith, sum-suc v e, sum-mono v (suc e) n h)
 
 -- each place below the sum is in one part
 pub tile : (v : ℕ → ℕ) (n c : ℕ) → c < sum v n → (e : ℕ) × (e < n) × (sum v e ≤ c) × (c < sum v e + v e)

@@ -4,10 +4,10 @@ use mathlib.Core.List.{List, [], _∷_, _++_}
 use Prim.Native.Nat.{ℕ, zero, suc, _+_, _-_, _*_, _^_, min, max}
 use lib.Dec.{ltb}
 use lib.ListN.{take}
-use Rattle.rank_sel.specs.Numbers.{ceilDiv}
+use Rattle.rank_sel.specs.Numbers.{ceilDiv, sum}
 use Rattle.spacing.specs.Spacing.{N, L, M, S}
 use Rattle.spacing.specs.declared.Parameters.{Parameters}
-use Rattle.inventory.specs.Lanes.{pack, tabulate, sum}
+use Rattle.inventory.specs.Lanes.{pack, tabulate}
 use Rattle.inventory.specs.Shape.{fromSpan, log2Quantum, spilledBy, shapeOf}
 use Rattle.inventory.specs.declared.SpanType.{SpanType}
 use Rattle.inventory.specs.declared.Summary.{Summary}

@@ -15,8 +15,3 @@ pack w v (suc n) = pack w v n + v n * 2 ^ (w * n)
 unfoldable pub tabulate : (ℕ → ℕ) → ℕ → List ℕ
 tabulate v zero = []
 tabulate v (suc n) = tabulate v n ++ (v n ∷ [])
-
--- v 0 + v 1 + .. + v (n - 1)
-unfoldable pub sum : (ℕ → ℕ) → ℕ → ℕ
-sum v zero = 0
-sum v (suc n) = sum v n + v n

@@ -6,7 +6,7 @@ ghost use Rattle.spacing.specs.Spacing.{maxLog2Words};
 ghost use Rattle.inventory.specs.Index.{stride};
 ghost use Rattle.inventory.specs.Lanes.{laneOf};
 ghost use Rattle.inventory.specs.Read.{spanAt, startBy, tagged};
-ghost use Rattle.inventory.specs.Steps.{EntryIn, HeadIn, SpotFor, Readable, Shaped, decoded, headOf, marked, marking, numberOfMark, readingOf, spaced, spacingAt};
+ghost use Rattle.inventory.specs.Steps.{EntryIn, HeadIn, Readable, Shaped, SpotFor, decoded, headOf, marked, marking, numberOfMark, readingOf, spaced, spacingAt};
 use crate::Shape;
 use crate::SpanType;
 use crate::Summary;

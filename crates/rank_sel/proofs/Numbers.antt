@@ -1,15 +1,16 @@
--- Cases on the order of two numbers, and the first number that passes a test.
+-- Cases on the order of two numbers, the first number that passes a test, and sums.
 use mathlib.Core.Path.{_≡_, refl, sym, ap, _∙_}
 use mathlib.Core.Logic.{_⊎_, inl, inr, ⊎-elim}
 use mathlib.Core.Bool.{Bool, true, false}
 use Prim.Native.Nat.{ℕ, zero, suc, _+_, _-_, _^_, _≤_, _<_}
 use native.Mathlib.Nat.{pow-suc, le-antisymm}
 use native.Mathlib.Numerals.{add-one}
+use native.Mathlib.Decide.{le-ind}
 use native.Mathlib.Omega.{arith}
 use lib.Dec.{leb, ltb}
 use lib.Pow.{pow-pos, pow-mono}
 use borrow.Author.Tests.{ltb-true, ltb-false, leb-true, lt-ltb, le-leb}
-use Rattle.rank_sel.specs.Numbers.{orNext, firstFrom, ilog2, clog2}
+use Rattle.rank_sel.specs.Numbers.{orNext, firstFrom, ilog2, clog2, sum}
 
 pub lt-or-le : (a b : ℕ) → (a < b) ⊎ (b ≤ a)
 lt-or-le a b = go (ltb a b) refl
@@ -23,9 +24,6 @@ pub record First (t : ℕ → Bool) (c r : ℕ) : Type 0 where
   pub here : t r ≡ true
   pub low : c ≤ r
   pub least : (m : ℕ) → c ≤ m → t m ≡ true → r ≤ m
-
-pub first-unique : (t : ℕ → Bool) (c r s : ℕ) → First t c r → First t c s → r ≡ s
-first-unique t c r s f g = le-antisymm (f .least s (g .low) (g .here)) (g .least r (f .low) (f .here))
 
 -- a number that passes is not one that fails
 past : (t : ℕ → Bool) (c m : ℕ) → t c ≡ false → t m ≡ true → c ≤ m → suc c ≤ m
@@ -99,3 +97,14 @@ clog2-ilog2 n h =
 -- below a successor: below, or there
 pub lt-suc-cases : (P : ℕ → Type 0) (i n : ℕ) → i < suc n → (i < n → P i) → P n → P i
 lt-suc-cases P i n h low top = ⊎-elim low (λ (g : n ≤ i). let e : i ≡ n = omega arith in rw e top) (lt-or-le i n)
+
+pub sum-zero : (v : ℕ → ℕ) → sum v 0 ≡ 0
+unfolding sum
+sum-zero v = refl
+
+pub sum-suc : (v : ℕ → ℕ) (n : ℕ) → sum v (suc n) ≡ sum v n + v n
+unfolding sum
+sum-suc v n = refl
+
+pub sum-mono : (v : ℕ → ℕ) (m n : ℕ) → m ≤ n → sum v m ≤ sum v n
+sum-mono v m n h = le-ind (λ (i : ℕ). sum v m ≤ sum v i) (omega arith) (λ i l e. omega (arith, sum-suc v i)) n h

@@ -3,13 +3,13 @@ use mathlib.Core.Path.{_≡_, refl, sym, ap, _∙_}
 use mathlib.Core.Logic.{⊎-elim}
 use mathlib.Core.Bool.{Bool, true, false}
 use mathlib.Core.Option.{Option, none, some}
-use Prim.Native.Nat.{ℕ, zero, suc, _+_, _-_, _≤_, _<_}
+use Prim.Native.Nat.{ℕ, zero, suc, _+_, _≤_, _<_}
 use native.Mathlib.Nat.{add-zero, add-suc, suc-add}
 use native.Mathlib.Omega.{arith}
 use Rattle.rank_sel.specs.Rank.{rank}
 use Rattle.rank_sel.specs.Seek.{onHere, seek, Sought, Exact}
 use Rattle.rank_sel.proofs.Numbers.{lt-or-le}
-use Rattle.rank_sel.proofs.Rank.{rank-zero, rank-one, rank-same, rank-lt}
+use Rattle.rank_sel.proofs.Rank.{rank-one, rank-same, rank-lt}
 
 pub sought-unique : (f : ℕ → Bool) (p q : ℕ) → f p ≡ true → f q ≡ true → rank f p ≡ rank f q → p ≡ q
 sought-unique f p q ep eq e = ⊎-elim (λ l. omega (arith, rank-lt f p q ep l)) (λ g. ⊎-elim (λ l. omega (arith, rank-lt f q p eq l)) (λ l. omega arith) (lt-or-le q p)) (lt-or-le p q)
@@ -75,30 +75,19 @@ seek-some f n x k h = go (seek f n x k) refl
 pub sought-wider : (f : ℕ → Bool) (n x k m y r p : ℕ) → Sought f n x k p → y ≤ x → x + n ≤ y + m → rank f x + k ≡ rank f y + r → Sought f m y r p
 sought-wider f n x k m y r p s a b e = record { low = omega arith; high = omega arith; here = s .here; before = omega arith }
 
--- a seek may start at any mark on the way: what it passed is taken off
-pub seek-skip : (f : ℕ → Bool) (n x k m r : ℕ) → x ≤ m → m ≤ x + n → rank f m + r ≡ rank f x + k → seek f n x k ≡ seek f (x + n - m) m r
-seek-skip f n x k m r l h e = go (seek f (x + n - m) m r) refl
-  where
-    go : (s : Option ℕ) → seek f (x + n - m) m r ≡ s → seek f n x k ≡ seek f (x + n - m) m r
-    go (some p) q =
-        let s = seek-found f (x + n - m) m r p q in
-        seek-at f n x k p (sought-wider f (x + n - m) m r n x k p s (omega arith) (omega arith) (omega arith)) ∙ sym q
-    go none q =
-        let z : rank f (m + (x + n - m)) ≡ rank f (x + n) = ap (rank f) (omega arith) in
-        seek-empty f n x k (omega (arith, seek-none f (x + n - m) m r q)) ∙ sym q
-
--- after the one of rank k, the next is of rank k + 1
-pub seek-next : (f : ℕ → Bool) (n x k p : ℕ) → seek f n x k ≡ some p → seek f n x (k + 1) ≡ seek f (x + n - suc p) (suc p) 0
-seek-next f n x k p e =
-    let s = seek-found f n x k p e in
-    seek-skip f n x (k + 1) (suc p) 0 (omega arith) (omega arith) (omega (arith, rank-one f p (s .here)))
-
--- there is an answer exactly below the count
-pub seek-total : (f : ℕ → Bool) (n r : ℕ) → r < rank f n → (p : ℕ) × (seek f n 0 r ≡ some p) × (p < n) × (f p ≡ true) × (rank f p ≡ r)
-seek-total f n r h =
-    let z : rank f (0 + n) ≡ rank f n = ap (rank f) (omega arith) in
-    let s = seek-some f n 0 r (omega (arith, rank-zero f)) in
-    (s .0, s .1, omega (arith, s .2), s .2 .here, omega (arith, s .2, rank-zero f))
+-- a seek may start at any place, before or behind: from there it is left with as many to pass
+module _ (f : ℕ → Bool) (n x k m y r : ℕ) (end : x + n ≡ y + m) (left : rank f x + k ≡ rank f y + r) where
+  pub seek-same : seek f n x k ≡ seek f m y r
+  seek-same = go (seek f m y r) refl
+    where
+      go : (s : Option ℕ) → seek f m y r ≡ s → seek f n x k ≡ seek f m y r
+      go (some p) q =
+          let s = seek-found f m y r p q in
+          let l : x ≤ p = ⊎-elim (λ h. absurd (omega (arith, s .before, rank-lt f p x (s .here) h))) (λ h. h) (lt-or-le p x) in
+          seek-at f n x k p (record { low = l; high = omega (arith, s .high); here = s .here; before = omega (arith, s .before) }) ∙ sym q
+      go none q =
+          let z : rank f (y + m) ≡ rank f (x + n) = ap (rank f) (sym end) in
+          seek-empty f n x k (omega (arith, seek-none f m y r q)) ∙ sym q
 
 pub seek-exact : (f : ℕ → Bool) (n x k : ℕ) → Exact f n x k
 seek-exact f n x k = record {

@@ -24,3 +24,8 @@ ilog2 n = firstFrom (λ l. ltb n (2 ^ (l + 1))) n 0
 -- the least c with 2^c ≥ n
 unfoldable pub clog2 : ℕ → ℕ
 clog2 n = firstFrom (λ c. leb n (2 ^ c)) n 0
+
+-- v 0 + .. + v (n - 1)
+unfoldable pub sum : (ℕ → ℕ) → ℕ → ℕ
+sum v zero = 0
+sum v (suc n) = sum v n + v n

@@ -8,14 +8,14 @@ use borrow.Author.Tests.{ltb-true, lt-ltb}
 use lib.Dec.{ltb}
 use lib.Bits.{bitAnd, and-mask}
 use lib.Count.{ones}
-use Rattle.rank_sel.specs.Numbers.{firstFrom}
+use Rattle.rank_sel.specs.Numbers.{firstFrom, sum}
 use Rattle.rank_sel.specs.Rank.{ind, rank}
 use Rattle.rank_sel.specs.Seek.{Sought}
 use Rattle.rank_sel.proofs.Numbers.{First, first-found, lt-or-le}
 use Rattle.rank_sel.proofs.Rank.{rank-zero, rank-suc, rank-one, rank-same}
 use Rattle.rank_sel.proofs.Seek.{sought-wider}
 use Rattle.select_in_word.specs.Bit.{bit}
-use Rattle.select_in_word.specs.Bytes.{byteOf, Bytes, sum, firstAbove}
+use Rattle.select_in_word.specs.Bytes.{byteOf, Bytes, firstAbove}
 use Rattle.select_in_word.proofs.Bytes.{byte-shl, byte-shl-none}
 use Rattle.select_in_word.proofs.Holds.{holds-field, holds-rank, holds-ones, holds-sought}
 use Rattle.select_in_word.proofs.Select.{holds-byte}

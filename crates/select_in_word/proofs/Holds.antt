@@ -42,10 +42,6 @@ holds-shr m f base w s h = record {
 pub holds-less : (m : ℕ) (f : ℕ → Bool) (base w n : ℕ) → Holds m f base w → n ≤ m → Holds n f base (w % 2 ^ n)
 holds-less m f base w n h l = record { small = mod-lt w (pow-pos n); bits = λ j k. bit-low w n j k ∙ h .bits j (omega arith) }
 
--- the m low bits of a number
-pub holds-low : (m w : ℕ) → Holds m (bit w) 0 (w % 2 ^ m)
-holds-low m w = record { small = mod-lt w (pow-pos m); bits = λ j l. bit-low w m j l ∙ ap (bit w) (omega arith) }
-
 -- the m bits of a number from s on: (w >> s) & (2 ^ m - 1)
 pub holds-field : (m w s : ℕ) → Holds m (bit w) s (w / 2 ^ s % 2 ^ m)
 holds-field m w s = record { small = mod-lt (w / 2 ^ s) (pow-pos m); bits = λ j l. bit-low (w / 2 ^ s) m j l ∙ bit-shr w s j }

@@ -1,24 +1,13 @@
 -- Running sums of a word's bytes, by doubling: w + (w << 8u) has in each byte the sum of twice as many.
-use mathlib.Core.Path.{_≡_, refl, sym, ap, _∙_}
+use mathlib.Core.Path.{_≡_, sym, ap, _∙_}
 use mathlib.Core.Logic.{⊎-elim}
 use Prim.Native.Nat.{ℕ, zero, suc, _+_, _-_, _*_, _%_, _^_, _≤_, _<_}
 use native.Mathlib.Nat.{mod-lt, mod-eq-of-lt}
-use native.Mathlib.Decide.{le-ind}
 use native.Mathlib.Omega.{arith}
-use Rattle.rank_sel.proofs.Numbers.{lt-or-le}
-use Rattle.select_in_word.specs.Bytes.{byteOf, Bytes, sum}
+use Rattle.rank_sel.specs.Numbers.{sum}
+use Rattle.rank_sel.proofs.Numbers.{lt-or-le, sum-zero, sum-suc, sum-mono}
+use Rattle.select_in_word.specs.Bytes.{byteOf, Bytes}
 use Rattle.select_in_word.proofs.Bytes.{byte-add, add-fits, byte-shl, byte-shl-none}
-
-sum-zero : (g : ℕ → ℕ) → sum g 0 ≡ 0
-unfolding sum
-sum-zero g = refl
-
-sum-suc : (g : ℕ → ℕ) (n : ℕ) → sum g (suc n) ≡ sum g n + g n
-unfolding sum
-sum-suc g n = refl
-
-sum-mono : (g : ℕ → ℕ) (m n : ℕ) → m ≤ n → sum g m ≤ sum g n
-sum-mono g m n h = le-ind (λ (i : ℕ). sum g m ≤ sum g i) (omega arith) (λ i l e. omega (arith, sum-suc g i)) n h
 
 -- what grows by g from 0 on is its sum
 pub sum-steps : (f g : ℕ → ℕ) (n : ℕ) → f 0 ≡ 0 → ((j : ℕ) → j < n → f (suc j) ≡ f j + g j) → sum g n ≡ f n

@@ -1,6 +1,6 @@
 -- A word as eight bytes, lowest first.
 use mathlib.Core.Path.{_≡_}
-use Prim.Native.Nat.{ℕ, zero, suc, _+_, _*_, _/_, _%_, _^_, _<_}
+use Prim.Native.Nat.{ℕ, _*_, _/_, _%_, _^_, _<_}
 use lib.Dec.{ltb}
 use Rattle.rank_sel.specs.Numbers.{firstFrom}
 
@@ -11,11 +11,6 @@ byteOf w j = w / 2 ^ (8 * j) % 256
 -- byte j of w is g j
 abbrev pub Bytes : (ℕ → ℕ) → ℕ → Type 0
 Bytes g w = (j : ℕ) → j < 8 → byteOf w j ≡ g j
-
--- g 0 + .. + g (n - 1)
-unfoldable pub sum : (ℕ → ℕ) → ℕ → ℕ
-sum g zero = 0
-sum g (suc n) = sum g n + g n
 
 -- the number of the first byte of w above k, or 8 where there is none
 unfoldable pub firstAbove : ℕ → ℕ → ℕ

@@ -10,7 +10,7 @@ use Rattle.select_in_word.specs.Bit.{bit}
 use Rattle.select_in_word.specs.declared.InWord.{InWord}
 use Rattle.select_in_word.specs.declared.InWord.the-variants.{At, Refused}
 use Rattle.select_in_word.specs.declared.WordSeek.{WordSeek}
-use Rattle.select_in_word.specs.declared.WordSeek.the-variants as W
+use Rattle.select_in_word.specs.declared.WordSeek.the-variants as WordSeek·v
 
 -- a word has n ones
 pub record Counts (w n : ℕ) : Type 0 where
@@ -40,5 +40,5 @@ seekInWord w k = orOnes w (seek (bit w) 64 0 k)
 
 -- what a WordSeek says: a position, or a count of ones
 abbrev pub said : WordSeek → ℕ ⊎ ℕ
-said (W.At p) = inl p
-said (W.Past n) = inr n
+said (WordSeek·v.At p) = inl p
+said (WordSeek·v.Past n) = inr n

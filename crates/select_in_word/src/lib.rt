@@ -4,9 +4,10 @@ ghost use mathlib.Core.Path.{_≡_};
 ghost use Prim.Native.Nat.{ℕ, suc, _*_, _%_, _^_, _<_};
 ghost use lib.Bits.{bitAnd};
 ghost use lib.Count.{ones};
+ghost use Rattle.rank_sel.specs.Numbers.{sum};
 ghost use Rattle.rank_sel.specs.Rank.{ind};
 ghost use Rattle.select_in_word.specs.Bit.{bit};
-ghost use Rattle.select_in_word.specs.Bytes.{byteOf, Bytes, sum, firstAbove};
+ghost use Rattle.select_in_word.specs.Bytes.{byteOf, Bytes, firstAbove};
 ghost use Rattle.select_in_word.specs.Select.{Counts, inWord, said, seekInWord, selectInByte, selectInWord};
 ghost use Rattle.select_in_word.specs.Tail.{tailMask};
 

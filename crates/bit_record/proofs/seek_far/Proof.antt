@@ -4,8 +4,9 @@ use native.Mathlib.Omega.{arith}
 use lib.Count.{ones}
 use borrow.Author.Needs.{needs}
 use Rattle.rank_sel.specs.Rank.{rank}
+use Rattle.rank_sel.proofs.Seek.{seek-same}
 use Rattle.bit_record.specs.Record.{selected}
-use Rattle.bit_record.proofs.Seek.{record-none, record-same, before-from}
+use Rattle.bit_record.proofs.Seek.{record-none, before-from}
 use Rattle.bit_record.proofs.seek_far.Statement.{statement}
 use Rattle.bit_record.proofs.seek_far.Tie as tie
 
@@ -55,7 +56,7 @@ returns-2 : tie.Need-returns-2 Inv-loop μ-loop
 returns-2 c =
     let a = c .before .before .before .before .before .before .before .before .before .before .args in
     let l = c .before .before .before .before .loop in
-    c .seek-from .ensures ∙ record-same (a .polarity) (a .words .now) (a .len) (a .from) (a .k) (64 * l .i) (l .remaining) (l .inv .1)
+    c .seek-from .ensures ∙ seek-same (selected (a .polarity) (a .words .now) (a .len)) (a .len - 64 * l .i) (64 * l .i) (l .remaining) (a .len - a .from) (a .from) (a .k) (omega arith) (l .inv .1)
 
 add-i : tie.Need-add-i Inv-loop μ-loop
 add-i c = omega (arith, c .before .before .before .before .before .before .before .before .before .pre .0 .short)
@@ -76,7 +77,7 @@ returns-3 : tie.Need-returns-3 Inv-loop μ-loop
 returns-3 c =
     let a = c .before .before .before .before .before .before .before .before .args in
     let l = c .before .before .loop in
-    c .seek-from2 .ensures ∙ record-same (a .polarity) (a .words .now) (a .len) (a .from) (a .k) (64 * l .i) (l .remaining) (l .inv .1)
+    c .seek-from2 .ensures ∙ seek-same (selected (a .polarity) (a .words .now) (a .len)) (a .len - 64 * l .i) (64 * l .i) (l .remaining) (a .len - a .from) (a .from) (a .k) (omega arith) (l .inv .1)
 
 pub seek-far-spec : {M : Type 1} → statement M
 seek-far-spec =
