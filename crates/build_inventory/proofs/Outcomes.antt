@@ -5,7 +5,7 @@ use mathlib.Core.List.{List, _++_}
 use Prim.Native.Nat.{ℕ, _≤_}
 use lib.Dec.{ltb}
 use lib.ListN.{drop}
-use borrow.Author.Tests.{ltb-false}
+use borrow.Author.Tests.{le-ltb, ltb-false}
 use Rattle.rank_sel.specs.Outcome.{Outcome, answer, refused, numberOf, refuseIf, andThen}
 use Rattle.rank_sel.specs.declared.Refusal.{Refusal}
 use Rattle.rank_sel.proofs.Outcome.{answer-is, not-refused, then-answer}
@@ -65,18 +65,32 @@ module _ (ws : List ℕ) (len : ℕ) (pol : Polarity) (choice : Choice) (cells s
         spill-room = ltb-false spill _ (ap (λ (z : Summary). ltb spill (z .«spill_len»)) (answer-is (f .1)) ∙ g .0);
       }
 
+-- the counts in a summary of the record and the choice
+module _ (ws : List ℕ) (t : Summary) (is : t ≡ summaryOf (posIn ws (t .plan)) (t .plan)) where
+  pub inventory-counted : inventoryLenOf (t .plan) ≡ t .«inventory_len»
+  unfolding summaryOf
+  inventory-counted = ap (λ (z : Summary). z .«inventory_len») (sym is)
+
+  pub spill-counted : spillLenOf ws (t .plan) ≡ t .«spill_len»
+  unfolding summaryOf
+  spill-counted = ap (λ (z : Summary). z .«spill_len») (sym is)
+
+-- a build of the same record and choice that is lent as many cells answers the same
+pub admitted-on : (ws : List ℕ) (len : ℕ) (pol : Polarity) (choice : Choice) (cells spill : ℕ) (t : Summary) → Admission ws len pol choice cells spill t
+    → (c k : ℕ) → t .«inventory_len» ≤ c → t .«spill_len» ≤ k → buildOf ws len pol choice c k ≡ answer t
+unfolding buildOf measured fitted
+admitted-on ws len pol choice cells spill t m c k a b =
+    rw (m .planned, inventory-counted ws t (m .is), le-ltb c (t .«inventory_len») a, ← m .is, le-ltb k (t .«spill_len») b)
+
 -- ---- what a build leaves
 module _ (ws inv₀ sp₀ : List ℕ) (o : Outcome Summary) where
   pub built-as : (t : Summary) (inv sp : List ℕ) → answer t ≡ o → t ≡ summaryOf (posIn ws (t .plan)) (t .plan) → Filled (posIn ws (t .plan)) (t .plan) inv₀ inv sp₀ sp
       → BuiltAs ws o inv₀ inv sp₀ sp (Built·v.Summary t)
-  unfolding summaryOf
   built-as t inv sp e is w =
-      let n : inventoryLenOf (t .plan) ≡ t .«inventory_len» = ap (λ (z : Summary). z .«inventory_len») (sym is) in
-      let k : spillLenOf ws (t .plan) ≡ t .«spill_len» = ap (λ (z : Summary). z .«spill_len») (sym is) in
       subst (λ (z : Outcome Summary). BuiltAs ws z inv₀ inv sp₀ sp (Built·v.Summary t)) e record {
         answers = refl;
-        inventory = w .inventory ∙ ap (λ (z : ℕ). inventoryOf (posIn ws (t .plan)) (t .plan) ++ drop z inv₀) n;
-        spill = w .spill ∙ ap (λ (z : ℕ). spillOf (posIn ws (t .plan)) (t .plan) ++ drop z sp₀) k;
+        inventory = w .inventory ∙ ap (λ (z : ℕ). inventoryOf (posIn ws (t .plan)) (t .plan) ++ drop z inv₀) (inventory-counted ws t is);
+        spill = w .spill ∙ ap (λ (z : ℕ). spillOf (posIn ws (t .plan)) (t .plan) ++ drop z sp₀) (spill-counted ws t is);
       }
 
   pub built-not : (r : Refusal) → refused (numberOf r) ≡ o → BuiltAs ws o inv₀ inv₀ sp₀ sp₀ (Built·v.Refused r)

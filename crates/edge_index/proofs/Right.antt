@@ -13,7 +13,7 @@ use Rattle.rank_sel.specs.Outcome.{Outcome, answer, orRefuse}
 use Rattle.rank_sel.specs.Rank.{rank}
 use Rattle.rank_sel.specs.Seek.{select}
 use Rattle.rank_sel.proofs.Numbers.{lt-or-le}
-use Rattle.rank_sel.proofs.Select.{select-sought, select-rank, select-below, select-le, select-seek}
+use Rattle.rank_sel.proofs.Select.{select-le, select-seek}
 use Rattle.bit_record.specs.Record.{selected, numSelected}
 use Rattle.bit_record.specs.declared.Polarity.{Polarity}
 use Rattle.spacing.specs.Spacing.{N, L, M, S, maxLog2Words}
@@ -30,7 +30,7 @@ use Rattle.inventory.proofs.Marks.{start-here}
 use Rattle.inventory.proofs.Ranks.{entry-in, rank-entry, rank-sub, rank-in}
 use Rattle.inventory.proofs.ReadBack.{kind-whole, kind-headless, some-lanes, spill-heads, in-mark, mark-in, marks-placed, shape-by, spilled-by}
 use Rattle.inventory.proofs.Sums.{sum-part}
-use Rattle.edge_index.specs.Right.{Bit, Within, Right}
+use Rattle.edge_index.specs.Right.{Within, Right}
 use Rattle.edge_index.specs.Sound.{bitOf, qOf, marksOf, spilledOf, markRank, Sound}
 
 -- step 7 from the mark of rank m, past j: a U64 mark is the bit itself
@@ -55,13 +55,6 @@ module _ (ws : List ℕ) (len : ℕ) (pol : Polarity) (choice : Choice) (t : Sum
   num : (r : ℕ) → r < N p → r < rank f len
   unfolding numSelected
   num r h = omega (arith, plan-num ws len pol p c)
-
-  bit : (r : ℕ) → r < N p → Bit ws len pol r (pos r)
-  bit r h = record {
-    below = select-below f len r (num r h);
-    here = select-sought f len r (num r h) .here;
-    before = select-rank f len r (num r h);
-  }
 
   -- ---- the tests are passed
   lawful : unlawful t ≡ false
@@ -119,7 +112,7 @@ module _ (ws : List ℕ) (len : ℕ) (pol : Polarity) (choice : Choice) (t : Sum
   unfolding positionOf residual
   position-right r h =
       let m = s .met r h in
-      let n : markOf r + passes r ≡ r = omega (arith, m .passed, bit r h .before, bit (markOf r) (mark-lt r h) .before) in
+      let n : markOf r + passes r ≡ r = omega (arith, m .passed, s .bits r h .before, s .bits (markOf r) (mark-lt r h) .before) in
       let k : SpanType = kindOf pos p (e r) in
       rw (m .mark, s .kinds (e r) (entry-of r h), s .quanta (e r) (entry-of r h))
       (ap (λ (g : ℕ → Bool). finish k g (p .len) (pos (markOf r)) (passes r)) record-same
@@ -171,8 +164,8 @@ module _ (ws : List ℕ) (len : ℕ) (pol : Polarity) (choice : Choice) (t : Sum
   pub right : Right ws len pol t inv sp
   unfolding selectOf hintOf dwellOf
   right = record {
-    select = λ r h. (pos r, tests-pass _ ∙ rw (lt-leb (N p) r h) (position-right r h), bit r h);
-    hint = λ r h. (pos (markOf r), hint-right r h, bit (markOf r) (mark-lt r h));
+    select = λ r h. (pos r, tests-pass _ ∙ rw (lt-leb (N p) r h) (position-right r h), s .bits r h);
+    hint = λ r h. (pos (markOf r), hint-right r h, s .bits (markOf r) (mark-lt r h));
     dwell = λ a b l h. (
       pos a,
       pos b,
@@ -186,8 +179,8 @@ module _ (ws : List ℕ) (len : ℕ) (pol : Polarity) (choice : Choice) (t : Sum
             le-ltb (pos b) (pos a) (rise a b l h),
           ),
       rise a b l h,
-      bit a (omega arith),
-      bit b h,
+      s .bits a (omega arith),
+      s .bits b h,
     );
     store = store-right;
     selectPast = λ r h. tests-pass _ ∙ rw (le-leb (N p) r h);

@@ -22,14 +22,14 @@ use Rattle.spacing.specs.declared.Choice.{Choice}
 use Rattle.spacing.specs.declared.Parameters.{Parameters}
 use Rattle.spacing.proofs.Facts.{PlanFacts, plan-admitted, plan-facts, plan-num}
 use Rattle.inventory.specs.Index.{entriesOf, stride, inventoryLenOf, ranksOf, mark, bound, startOf, spillStart, summaryOf}
-use Rattle.inventory.specs.Read.{decode}
+use Rattle.inventory.specs.Read.{startAt, decode}
 use Rattle.inventory.specs.declared.Summary.{Summary}
 use Rattle.inventory.proofs.Marks.{Rising, start-here}
 use Rattle.inventory.proofs.Placed.{Placed}
 use Rattle.inventory.proofs.ReadBack.{kind-heads, kind-spills, kind-read, start-read, quantum-read, second-read, unused-read, first-rank, mark-in, decode-read}
 use Rattle.inventory.proofs.Ranks.{entry-in, in-entry, rank-entry, rank-sub, rank-in}
 use Rattle.inventory.proofs.Sums.{tile, tile-one}
-use Rattle.edge_index.specs.Sound.{bitOf, Holds, qOf, marksOf, spilledOf, markRank, nextRank, Met, Sound}
+use Rattle.edge_index.specs.Sound.{bitOf, Bit, Holds, qOf, marksOf, spilledOf, markRank, nextRank, Met, Sound}
 
 -- the bits of a planned record rise
 pub rising : (ws : List ℕ) (len : ℕ) (pol : Polarity) (p : Parameters) → PlanFacts ws len pol p → Rising (bitOf ws len pol) p
@@ -70,8 +70,22 @@ module _ (ws : List ℕ) (len : ℕ) (pol : Polarity) (choice : Choice) (p : Par
   unfolding numSelected
   num r h = omega (arith, plan-num ws len pol p facts)
 
+  bits : (r : ℕ) → r < N p → Bit ws len pol r (pos r)
+  bits r h = record {
+    below = select-below f len r (num r h);
+    here = select-sought f len r (num r h) .here;
+    before = select-rank f len r (num r h);
+  }
+
   bit-rank : (r : ℕ) → r < N p → rank f (pos r) ≡ r
-  bit-rank r h = select-rank f len r (num r h)
+  bit-rank r h = bits r h .before
+
+  -- the entries hold every rank
+  covered : N p ≤ entriesOf p * 2 ^ L p
+  covered = ⊎-elim
+      (λ (h : entriesOf p * 2 ^ L p < N p). absurd (omega (arith, in-entry p (entriesOf p) h)))
+      (λ (h : N p ≤ entriesOf p * 2 ^ L p). h)
+      (lt-or-le (entriesOf p * 2 ^ L p) (N p))
 
   -- a rank stands before the next mark's
   before-next : (e s : ℕ) → s < ranksOf p e → e * 2 ^ L p + s < nextRank pos p e (s / 2 ^ qOf pos p e)
@@ -130,11 +144,30 @@ module _ (ws : List ℕ) (len : ℕ) (pol : Polarity) (choice : Choice) (p : Par
 
     closing : getD inv (entriesOf p * stride p) 0 ≡ max 1 len
     unfolding startOf bound
-    closing =
-        let l : N p ≤ entriesOf p * 2 ^ L p = ⊎-elim
-        (λ (h : entriesOf p * 2 ^ L p < N p). absurd (omega (arith, in-entry p (entriesOf p) h))) (λ (h : N p ≤ entriesOf p * 2 ^ L p). h)
-        (lt-or-le (entriesOf p * 2 ^ L p) (N p)) in
-        w .closing ∙ rw (le-ltb (entriesOf p * 2 ^ L p) (N p) l, facts .length)
+    closing = w .closing ∙ rw (le-ltb (entriesOf p * 2 ^ L p) (N p) covered, facts .length)
+
+    -- an entry's start as read, and the selected bits from it on
+    starts : (e : ℕ) → e < entriesOf p → startAt t inv e ≡ pos (e * 2 ^ L p)
+    starts e h = start-read pos p g (facts .of .spaced) inv sp w e h ∙ start-here pos p e (entry-in p e h)
+
+    start-rank : (e : ℕ) → e < entriesOf p → rank f (startAt t inv e) ≡ e * 2 ^ L p
+    start-rank e h = ap (rank f) (starts e h) ∙ bit-rank (e * 2 ^ L p) (entry-in p e h)
+
+    whole : (e : ℕ) → e + 1 < entriesOf p → (rank f (startAt t inv (e + 1)) ≡ rank f (startAt t inv e) + ranksOf p e) × (ranksOf p e ≡ 2 ^ L p)
+    unfolding ranksOf
+    whole e h =
+        let m = add-mul e 1 (2 ^ L p) in
+        let n = entry-in p (e + 1) h in
+        let r : ranksOf p e ≡ 2 ^ L p = omega arith in
+        (omega (arith, start-rank e (omega arith), start-rank (e + 1) h), r)
+
+    last : (e : ℕ) → e + 1 ≡ entriesOf p → (rank f len ≡ rank f (startAt t inv e) + ranksOf p e) × (1 ≤ ranksOf p e) × (ranksOf p e ≤ 2 ^ L p)
+    unfolding ranksOf numSelected
+    last e h =
+        let m = add-mul e 1 (2 ^ L p) in
+        let n = entry-in p e (omega arith) in
+        let l : N p ≤ (e + 1) * 2 ^ L p = rw h covered in
+        (omega (arith, start-rank e (omega arith), plan-num ws len pol p facts), omega arith, omega arith)
 
     -- cells placed, and long enough, have demand 3
     pub placed-sound : inventoryLenOf p ≤ length inv → spillStart pos p (entriesOf p) ≤ length sp → Sound ws len pol choice t inv sp
@@ -144,13 +177,16 @@ module _ (ws : List ℕ) (len : ℕ) (pol : Polarity) (choice : Choice) (p : Par
       inventoryLen = refl;
       inventoryHeld = a;
       spillHeld = b;
+      bits = bits;
       held = λ r h. (r / 2 ^ L p, rank-entry p r h, holds-rank p r h);
       alone = λ r d e h k. sym (holds-one p r d h) ∙ holds-one p r e k;
       marked = marked;
       between = between;
-      starts = λ e h. start-read pos p g (facts .of .spaced) inv sp w e h ∙ start-here pos p e (entry-in p e h);
+      starts = starts;
       kinds = kind-read pos p g (facts .of .spaced) inv sp w;
       quanta = quantum-read pos p g (facts .of .spaced) inv sp w;
+      whole = whole;
+      last = last;
       closing = ap (λ (n : ℕ). getD inv n 0) (omega arith) ∙ closing;
       none16 = kind-spills pos p;
       second = λ e h n. second-read pos p g (facts .of .spaced) inv sp w e h (kind-heads pos p e n);

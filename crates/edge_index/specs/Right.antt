@@ -1,22 +1,13 @@
 -- Demand 2: on an index that has demand 3, the readers answer each rank below N, and refuse by 8 and 11 alone.
-use mathlib.Core.Bool.{true}
 use mathlib.Core.List.{List}
 use mathlib.Core.Path.{_≡_}
 use Prim.Native.Nat.{ℕ, _+_, _-_, _/_, _%_, _^_, _≤_, _<_}
 use Rattle.rank_sel.specs.Outcome.{answer, refused}
-use Rattle.rank_sel.specs.Rank.{rank}
-use Rattle.bit_record.specs.Record.{selected}
 use Rattle.bit_record.specs.declared.Polarity.{Polarity}
 use Rattle.spacing.specs.Spacing.{N, L}
 use Rattle.inventory.specs.Read.{Place, start, own, over, placeAt, markNumber, selectOf, hintOf, dwellOf, Part, ofInventory, ofSpill, empty, subinventoryOf}
 use Rattle.inventory.specs.declared.Summary.{Summary}
-use Rattle.edge_index.specs.Sound.{bitOf, qOf, markRank}
-
--- position p is the bit of rank r: below len, selected, with exactly r selected positions before it (Vigna's select)
-pub record Bit (ws : List ℕ) (len : ℕ) (pol : Polarity) (r p : ℕ) : Type 0 where
-  pub below : p < len
-  pub here : selected pol ws len p ≡ true
-  pub before : rank (selected pol ws len) p ≡ r
+use Rattle.edge_index.specs.Sound.{bitOf, Bit, qOf, markRank}
 
 -- a part of the cells has the cell at a place; a U64 entry's start is not one of its numbers, and goes with its own cells
 abbrev pub Within : Place → Part → Type 0

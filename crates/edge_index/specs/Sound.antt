@@ -1,5 +1,5 @@
 -- Demand 3: what an index built or checked is, by what a reader reads from it. Document 01, "What demand 3 compares".
-use mathlib.Core.Bool.{Bool, cond}
+use mathlib.Core.Bool.{Bool, true, cond}
 use mathlib.Core.List.{List}
 use mathlib.Core.Path.{_≡_}
 use Prim.Native.Nat.{ℕ, suc, _+_, _-_, _*_, _/_, _%_, _^_, _≤_, _<_, min, max}
@@ -14,7 +14,7 @@ use Rattle.bit_record.specs.declared.Polarity.{Polarity}
 use Rattle.spacing.specs.Spacing.{N, L, M, planOf}
 use Rattle.spacing.specs.declared.Choice.{Choice}
 use Rattle.spacing.specs.declared.Parameters.{Parameters}
-use Rattle.inventory.specs.Index.{entriesOf, stride, kindOf, entryOf}
+use Rattle.inventory.specs.Index.{entriesOf, stride, ranksOf, kindOf, entryOf}
 use Rattle.inventory.specs.Read.{cellAt, kindAt, startAt, quantumAt, nearBy, placeAt, numberAt, decode}
 use Rattle.inventory.specs.declared.SpanType.the-variants.{U16}
 use Rattle.inventory.specs.declared.Summary.{Summary}
@@ -22,6 +22,12 @@ use Rattle.inventory.specs.declared.Summary.{Summary}
 -- the bit of rank r: the selected position with exactly r others before it
 abbrev pub bitOf : List ℕ → ℕ → Polarity → ℕ → ℕ
 bitOf ws len pol = select (selected pol ws len) len
+
+-- position p is the bit of rank r: below len, selected, with exactly r selected positions before it (Vigna's select)
+pub record Bit (ws : List ℕ) (len : ℕ) (pol : Polarity) (r p : ℕ) : Type 0 where
+  pub below : p < len
+  pub here : selected pol ws len p ≡ true
+  pub before : rank (selected pol ws len) p ≡ r
 
 -- entry e holds rank r
 pub record Holds (p : Parameters) (e r : ℕ) : Type 0 where
@@ -83,6 +89,8 @@ module _ (ws : List ℕ) (len : ℕ) (pol : Polarity) (choice : Choice) (t : Sum
     pub inventoryLen : t .«inventory_len» ≡ entriesOf p * stride p + 1
     pub inventoryHeld : t .«inventory_len» ≤ length inv
     pub spillHeld : t .«spill_len» ≤ length sp
+    -- each rank below N has its bit: `select` is 0 where there is none
+    pub bits : (r : ℕ) → r < N p → Bit ws len pol r (pos r)
     -- each rank lies in exactly one entry
     pub held : (r : ℕ) → r < N p → (e : ℕ) × (e < entriesOf p) × Holds p e r
     pub alone : (r d e : ℕ) → Holds p d r → Holds p e r → d ≡ e
@@ -96,6 +104,11 @@ module _ (ws : List ℕ) (len : ℕ) (pol : Polarity) (choice : Choice) (t : Sum
     pub starts : (e : ℕ) → e < entriesOf p → startAt t inv e ≡ pos (e * 2 ^ L p)
     pub kinds : (e : ℕ) → e < entriesOf p → kindAt t inv e ≡ kindOf pos p e
     pub quanta : (e : ℕ) → e < entriesOf p → quantumAt t inv e ≡ qOf pos p e
+    -- from its start as read, an entry takes in as many selected bits as it holds ranks: 2^L, and in the last at least one
+    pub whole : (e : ℕ) → e + 1 < entriesOf p
+        → (rank f (startAt t inv (e + 1)) ≡ rank f (startAt t inv e) + ranksOf p e) × (ranksOf p e ≡ 2 ^ L p)
+    pub last : (e : ℕ) → e + 1 ≡ entriesOf p
+        → (rank f len ≡ rank f (startAt t inv e) + ranksOf p e) × (1 ≤ ranksOf p e) × (ranksOf p e ≤ 2 ^ L p)
     pub closing : getD inv (t .«inventory_len» - 1) 0 ≡ max 1 len
     -- the spilled parts tile the spill
     pub none16 : (e : ℕ) → kindOf pos p e ≡ U16 → spilledOf pos p e ≡ 0
