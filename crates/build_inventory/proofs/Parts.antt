@@ -3,7 +3,7 @@ use mathlib.Core.Path.{_≡_, refl, ap, _∙_}
 use mathlib.Core.List.{List, [], _∷_, _++_, append-assoc, append-nil}
 use Prim.Native.Nat.{ℕ, zero, suc, _+_, _-_, _≤_}
 use native.Mathlib.Omega.{arith}
-use lib.ListN.{length, take, drop, set, length-append, length-take, length-drop, length-set, drop-of-length-le}
+use lib.ListN.{length, take, drop, set, length-append, length-take, length-drop, drop-of-length-le}
 use lib.Seq.{drop-at, take-at, take-all, take-take, drop-drop}
 
 -- it has room for n cells
@@ -32,10 +32,7 @@ back-long l₀ l ys k e h ey =
     let f : length ys ≡ length l - k = ey ∙ simp (length-take, length-drop) (omega arith) in
     simp (length-append, length-take, length-drop) (omega arith)
 
--- ---- two stores at the front
-pub two-set : (l : List ℕ) (a b : ℕ) → length (set (set l 0 a) 1 b) ≡ length l
-two-set l a b = simp length-set
-
+-- the two heads at the front
 pub heads-front : (l : List ℕ) (h a b : ℕ) → h ≤ 1 → 2 ≤ length l → take (1 + h) (set (set l 0 a) 1 b) ≡ take (1 + h) (a ∷ b ∷ [])
 heads-front [] h a b hh hl = absurd (omega arith)
 heads-front (y ∷ []) h a b hh hl = absurd (omega arith)

@@ -1,7 +1,7 @@
 // One entry: what is reckoned of it, the stream of its cells, and the step that writes it.
 ghost use mathlib.Core.Path.{_≡_};
 ghost use Prim.Native.Nat.{_+_, _*_, _^_, _≤_, _<_};
-ghost use lib.ListN.{length};
+ghost use lib.ListN.{length, set};
 ghost use Rattle.bit_record.specs.Record.{found};
 ghost use Rattle.spacing.specs.Spacing.{L, M, N, PlanOf};
 ghost use Rattle.inventory.specs.Index.{bound, entryOf, lane, packed, startOf, stride};
@@ -137,7 +137,15 @@ pub fn next_cell(words: &[u64], plan: Parameters, x: Entry, c: Cursor) -> Step
     }
 }
 
-// Writes n cells of the stream, zeros too.
+// The one place where a cell is written, a zero too: what was lent may hold anything.
+pub fn put(cells: &mut [u64], i: usize, cell: u64)
+    requires { ⌜ i < length (now cells) ⌝ }
+    ensures { λ r. ⌜ now (cells .exit) ≡ set (now (cells .entry)) i cell ⌝ }
+{
+    cells[i] = cell;
+}
+
+// Writes n cells of the stream.
 fn write_cells(
     words: &[u64],
     plan: Parameters,
@@ -155,7 +163,7 @@ fn write_cells(
     while i < n {
         let step = next_cell(words, plan, x, Cursor { at, k });
         let cursor = step.cursor;
-        cells[i] = step.value;
+        put(cells, i, step.value);
         at = cursor.at;
         k = cursor.k;
         i += 1;
@@ -178,6 +186,15 @@ pub fn first_cursor(words: &[u64], plan: Parameters, x: Entry) -> Cursor
     step.cursor
 }
 
+// The cells before an entry's lanes.
+fn write_heads(cells: &mut [u64], first: u64, second: u64)
+    requires { ⌜ 2 ≤ length (now cells) ⌝ }
+    ensures { λ r. ⌜ now (cells .exit) ≡ set (set (now (cells .entry)) 0 first) 1 second ⌝ }
+{
+    put(cells, 0, first);
+    put(cells, 1, second);
+}
+
 // An entry's own cells. The stream of a kind without a second head begins at the second cell, over what is put there.
 fn write_own(words: &[u64], plan: Parameters, x: Entry, before: u64, cells: &mut [u64]) -> Cursor
     requires { ⌜ PlanOf (now words) plan × EntryIn (now words) plan x × (stride plan ≤ length (now cells)) ⌝ }
@@ -185,8 +202,7 @@ fn write_own(words: &[u64], plan: Parameters, x: Entry, before: u64, cells: &mut
 {
     let shape = x.shape;
     let own = pow2(plan.log2_words_per_subinventory);
-    cells[0] = x.start + shape.tag;
-    cells[1] = before;
+    write_heads(cells, x.start + shape.tag, before);
     let at = (1 + shape.heads) as usize;
     let n = (own - shape.heads) as usize;
     let c = first_cursor(words, plan, x);

@@ -3,8 +3,7 @@ use mathlib.Core.List.{_++_}
 use Prim.Native.Nat.{ℕ, _+_, _-_, _*_, _≤_}
 use native.Mathlib.Nat.{zero-mul}
 use native.Mathlib.Omega.{arith}
-use lib.ListN.{length, drop, length-set}
-use borrow.Author.Needs.{needs}
+use lib.ListN.{length, drop}
 use Rattle.inventory.specs.Index.{stream}
 use Rattle.inventory.proofs.Lanes.{turn-more}
 use Rattle.build_inventory.specs.Positions.{posIn}
@@ -31,11 +30,8 @@ next-cell-requires c κs =
     let r = c .before .before .before .before .pre in
     (r .0, r .1, c .before .loop .inv .3, omega (arith, few-all (c .before .loop .i) (a .x .shape .lanes) (marked (a .words .now) (a .plan) (r .0) (a .x) (r .1) .few-lanes)))
 
-mul-cells : tie.Need-mul-cells Inv-loop μ-loop
-mul-cells c = search needs
-
-slice-write-cells : tie.Need-slice-write-cells Inv-loop μ-loop
-slice-write-cells c = omega arith
+put-requires : tie.Need-put-requires Inv-loop μ-loop
+put-requires c κs = omega arith
 
 add-i : tie.Need-add-i Inv-loop μ-loop
 add-i c = omega arith
@@ -45,14 +41,18 @@ loop-less c = omega arith
 
 loop-again : tie.Need-loop-again Inv-loop μ-loop
 loop-again c =
-    let a = c .before .before .before .before .before .before .args in
-    let l = c .before .before .before .loop in
-    let e = c .before .next-cell .ensures in (
+    let at-put = c .before .before in
+    let at-cell = at-put .before .before .before in
+    let at-loop = at-cell .before .before in
+    let a = at-loop .before .before .before .args in
+    let l = at-loop .loop in
+    let e = at-cell .next-cell .ensures in (
       omega arith,
-      simp length-set (l .inv .1),
+      at-put .put .kept .0 ∙ l .inv .1,
       omega (arith, e .number, l .inv .2, turn-more (l .i) (a .x .shape .lanes)),
       e .stands,
-      stream-more (posIn (a .words .now) (a .plan)) (a .x) (a .c .k) (a .cells .now) (l .cells) (l .i) (l .k) (c .before .next-cell .result .value) (l .inv .4) (omega arith) (l .inv .2) (e .gave),
+      rw (at-put .put .ensures)
+          (stream-more (posIn (a .words .now) (a .plan)) (a .x) (a .c .k) (a .cells .now) (l .cells) (l .i) (l .k) (at-cell .next-cell .result .value) (l .inv .4) (omega arith) (l .inv .2) (e .gave)),
     )
 
 same-length : tie.Need-same-length Inv-loop μ-loop
@@ -73,8 +73,7 @@ write-cells-spec =
     μ-loop
     loop-holds
     next-cell-requires
-    mul-cells
-    slice-write-cells
+    put-requires
     add-i
     loop-less
     loop-again

@@ -1,6 +1,7 @@
+use mathlib.Core.Path.{_∙_}
 use Prim.Native.Nat.{ℕ, _+_, _-_, _≤_, _<_}
 use native.Mathlib.Omega.{arith}
-use lib.ListN.{length, length-set}
+use lib.ListN.{length}
 use borrow.Author.Needs.{needs}
 use Rattle.inventory.specs.Index.{entriesOf, stride}
 use Rattle.inventory.proofs.Index.{entry-below}
@@ -123,24 +124,24 @@ loop-again c =
     stand-more (posIn (a .words .now) (a .plan)) (a .plan) (a .inventory .now) (a .spill .now) (r .cells) (r .spills) (l .inventory) (l .spill) (l .e) (l .at) (l .spilled) (l .start) (l .inv) (below (c .before .before .before .before .before .before .before .before)) (x .result) (x .ensures)
     (w .last .1 .1 .1 .1 .0) (w .last .1 .1 .1 .1 .1 .0) (c .before .before .before .before .before .before .before .before .before .before .before .entry-len .result) (c .before .before .before .before .before .before .before .before .before .before .before .entry-len .ensures) (w .ensures) (w .kept .1 .1 .1 .1 .0) (w .kept .1 .1 .1 .1 .1 .0)
 
-mul-inventory : tie.Need-mul-inventory Inv-loop μ-loop
-mul-inventory c = omega (arith, end c, c .before .loop .inv .long)
-
-slice-write-inventory : tie.Need-slice-write-inventory Inv-loop μ-loop
-slice-write-inventory c = end c
+put-requires : tie.Need-put-requires Inv-loop μ-loop
+put-requires c κs = end (c .before)
 
 same-length : tie.Need-same-length Inv-loop μ-loop
-same-length c = simp length-set (c .before .loop .inv .long)
+same-length c = c .before .before .put .kept .0 ∙ c .before .before .before .before .before .loop .inv .long
 
 same-length-2 : tie.Need-same-length-2 Inv-loop μ-loop
-same-length-2 c = c .before .loop .inv .spill-long
+same-length-2 c = c .before .before .before .before .before .loop .inv .spill-long
 
 returns : tie.Need-returns Inv-loop μ-loop
 returns c =
-    let a = c .before .before .before .before .before .before .before .before .args in
-    let r = c .before .before .before .before .before .before .before .before .pre in
-    let l = c .before .loop in
-    stand-last (posIn (a .words .now) (a .plan)) (a .plan) (a .inventory .now) (a .spill .now) (r .cells) (r .spills) (l .inventory) (l .spill) (l .e) (l .at) (l .spilled) (l .start) (l .inv) (omega (arith, c .before .before .before .before .entry-count .ensures, l .inv .reached .within))
+    let at-loop = c .before .before .before .before .before in
+    let s = at-loop .before .before .before .before .before .before .before in
+    let a = s .args in
+    let r = s .pre in
+    let l = at-loop .loop in
+    rw (c .before .before .put .ensures)
+    (stand-last (posIn (a .words .now) (a .plan)) (a .plan) (a .inventory .now) (a .spill .now) (r .cells) (r .spills) (l .inventory) (l .spill) (l .e) (l .at) (l .spilled) (l .start) (l .inv) (omega (arith, c .before .before .before .before .before .before .before .before .entry-count .ensures, l .inv .reached .within)))
 
 pub fill-spec : {M : Type 1} → statement M
 fill-spec =
@@ -167,8 +168,7 @@ fill-spec =
     add-e
     loop-less
     loop-again
-    mul-inventory
-    slice-write-inventory
+    put-requires
     same-length
     same-length-2
     returns)
