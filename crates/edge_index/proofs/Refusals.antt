@@ -17,10 +17,11 @@ use Rattle.spacing.specs.Spacing.{chosenPlan, planOf}
 use Rattle.spacing.specs.declared.Choice.{Choice}
 use Rattle.inventory.specs.Index.{inventoryLenOf}
 use Rattle.inventory.specs.Lanes.{laneOf}
-use Rattle.inventory.specs.Read.{kindAt, spanAt, shapeAt, Place, start, own, over, placeAt, numberAt, spanTooSmall, markAt, Hint, decode, finish, positionOf, tested, selectOf, hintOf, dwellOf, empty, partBy, unlessRefused, subinventoryOf, entryOfRank, markNumber, residual, rankTooLarge}
+use Rattle.inventory.specs.Read.{kindAt, spanAt, shapeAt, Place, start, own, over, placeAt, numberAt, spanTooSmall, markAt, Hint, decode, finish, positionOf, tested, selectOf, hintOf, dwellOf, subinventoryOf, cellsOf, entryOfRank, markNumber, residual, rankTooLarge}
 use Rattle.inventory.specs.declared.SpanType.{SpanType}
 use Rattle.inventory.specs.declared.SpanType.the-variants.{U16, U32, U64}
 use Rattle.inventory.specs.declared.Summary.{Summary}
+use Rattle.inventory.proofs.Stored.{store-some, store-in, store-length}
 use Rattle.build_inventory.specs.Build.{fitted, measured, sizeOf, buildOf, checkOf}
 use Rattle.edge_index.specs.Refusals.{Conditions, InOrder, ofRecord, ofChoice, ofIndex, planIn, summaryIn, toSix, toSeven, Only10, MakersRefuse, ReadersRefuse, InWordRefuses}
 
@@ -126,14 +127,10 @@ in-tests : {A : Type 0} (ws : List ℕ) (t : Summary) (inv sp : List ℕ) (o res
 unfolding tested
 in-tests ws t inv sp o rest cs h = in-refuse _ 1 _ _ _ (in-refuse _ 2 _ _ _ (in-refuse _ 9 _ _ _ (in-refuse _ 6 _ _ _ (in-refuse _ 7 _ _ cs h))))
 
-part-some : (t : Summary) (inv : List ℕ) (e : ℕ) (l : Place) {B : Type 0} → partBy t inv e l ≡ empty → B
-part-some t inv e start d = let z : _≡_ {A = ℕ} 0 1 = cc in absurd (omega arith)
-part-some t inv e (own c j) d = let z : _≡_ {A = ℕ} 0 1 = cc in absurd (omega arith)
-part-some t inv e (over c j) d = let z : _≡_ {A = ℕ} 0 1 = cc in absurd (omega arith)
-
-store-back : (t : Summary) (inv : List ℕ) (e : ℕ) (l : Place) (o : Outcome Hint) → unlessRefused o (partBy t inv e l) ≡ empty → (n : ℕ) × (o ≡ refused n)
-store-back t inv e l (answer h) d = part-some t inv e l d
-store-back t inv e l (refused n) d = (n, refl)
+store-back : (ws : List ℕ) (t : Summary) (inv sp : List ℕ) (r : ℕ) (o : Outcome Hint) → hintOf ws t inv sp r ≡ o
+    → cellsOf inv sp (subinventoryOf ws t inv sp r) ≡ [] → (n : ℕ) × (o ≡ refused n)
+store-back ws t inv sp r (answer h) e d = absurd (omega (arith, store-some ws t inv sp r h e, store-length ws t inv sp r, ap length d))
+store-back ws t inv sp r (refused n) e d = (n, refl)
 
 pub readers-refuse : (ws : List ℕ) (t : Summary) (inv sp : List ℕ) → ReadersRefuse ws t inv sp
 unfolding selectOf hintOf dwellOf subinventoryOf
@@ -144,10 +141,9 @@ readers-refuse ws t inv sp = record {
   hint-10 = ten-decode t inv sp;
   dwell = λ a b. in-tests ws t inv sp _ _ _ (in-refuse (rankTooLarge t a) 8 _ _ _ (in-refuse (rankTooLarge t b) 8 _ _ _ (in-refuse (ltb b a) 11 _ _ _ (in-rest _))));
   dwell-10 = λ a b. ten-then (positionOf ws t inv sp a) _ (ten-position ws t inv sp a) (λ p. ten-then (positionOf ws t inv sp b) _ (ten-position ws t inv sp b) (λ o. ten-refuse (ltb o p) (answer (o - p)) (ten-answer _)));
-  store = λ r. (
-    store-back t inv (entryOfRank t r) (placeAt t inv (entryOfRank t r) (markNumber t inv r)) (hintOf ws t inv sp r),
-    λ h. rw (h .1),
-  );
+  store = λ r. (store-back ws t inv sp r (hintOf ws t inv sp r) refl, λ h. rw (h .1));
+  store-some = store-some ws t inv sp;
+  store-in = store-in ws t inv sp;
 }
 
 pub in-word-refuses : InWordRefuses

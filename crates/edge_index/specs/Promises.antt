@@ -47,9 +47,9 @@ module _ (ws : List ℕ) (len : ℕ) (pol : Polarity) (choice : Choice) where
     -- demand 3: what build answers and writes, and what check says yes to
     pub built-sound : (t : Summary) (inv sp : List ℕ) → buildAnswers inv sp ≡ answer t → Sound ws len pol choice t (inventoryHolds inv sp) (spillHolds inv sp)
     pub checked-sound : (t : Summary) (inv sp : List ℕ) → checkOf ws len pol choice t inv sp ≡ answer true → Sound ws len pol choice t inv sp
-    -- so check says yes to what build just left
+    -- check says yes to what build just left
     pub built-checked : (t : Summary) (inv sp : List ℕ) → buildAnswers inv sp ≡ answer t → checkOf ws len pol choice t (inventoryHolds inv sp) (spillHolds inv sp) ≡ answer true
-    -- both hold on while record and cells within the counts are as they were when build answered, or check said yes
+    -- and all goes on to hold while record and cells within the counts are as they were when build answered, or check said yes
     pub built-stands : (t : Summary) (inv sp vs inv′ sp′ : List ℕ) → buildAnswers inv sp ≡ answer t
         → AsThen len t ws (inventoryHolds inv sp) (spillHolds inv sp) vs inv′ sp′ → Stands vs len pol choice t inv′ sp′
     pub checked-stands : (t : Summary) (inv sp vs inv′ sp′ : List ℕ) → checkOf ws len pol choice t inv sp ≡ answer true

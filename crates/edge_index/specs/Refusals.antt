@@ -17,7 +17,7 @@ use Rattle.spacing.specs.Spacing.{rule, planFor, onesPerInventoryTooLarge, word
 use Rattle.spacing.specs.declared.Choice.{Choice}
 use Rattle.spacing.specs.declared.Parameters.{Parameters}
 use Rattle.inventory.specs.Index.{inventoryLenOf, summaryOf}
-use Rattle.inventory.specs.Read.{decode, positionOf, unlawful, rankTooLarge, selectOf, hintOf, dwellBy, dwellOf, empty, subinventoryOf}
+use Rattle.inventory.specs.Read.{Hint, decode, positionOf, unlawful, rankTooLarge, selectOf, hintOf, dwellBy, dwellOf, subinventoryOf, PartIn, cellsOf, cellCount}
 use Rattle.inventory.specs.declared.Summary.{Summary}
 use Rattle.build_inventory.specs.Build.{sizesOf, sizeOf, buildOf, sameSummary, checkOf}
 use Rattle.build_inventory.specs.Compare.{sameIndex}
@@ -95,8 +95,10 @@ module _ (ws : List ℕ) (t : Summary) (inv sp : List ℕ) where
         (ofIndex ws t inv sp ++ ((rankTooLarge t a, 8) ∷ (rankTooLarge t b, 8) ∷ (ltb b a, 11) ∷ []))
         (andThen (positionOf ws t inv sp a) (λ p. andThen (positionOf ws t inv sp b) (λ o. dwellBy p o)))
     pub dwell-10 : (a b : ℕ) → Only10 (andThen (positionOf ws t inv sp a) (λ p. andThen (positionOf ws t inv sp b) (λ o. dwellBy p o)))
-    -- store is empty exactly where hint refuses
-    pub store : (r : ℕ) → (subinventoryOf ws t inv sp r ≡ empty) ↔ ((n : ℕ) × (hintOf ws t inv sp r ≡ refused n))
+    -- store's slice is empty exactly where hint refuses; where hint answers, the part has a cell; its cells are always lent
+    pub store : (r : ℕ) → (cellsOf inv sp (subinventoryOf ws t inv sp r) ≡ []) ↔ ((n : ℕ) × (hintOf ws t inv sp r ≡ refused n))
+    pub store-some : (r : ℕ) (h : Hint) → hintOf ws t inv sp r ≡ answer h → 0 < cellCount (subinventoryOf ws t inv sp r)
+    pub store-in : (r : ℕ) → PartIn inv sp (subinventoryOf ws t inv sp r)
 
 -- in-word select: 8 exactly where the rank is not below the word's ones
 abbrev pub InWordRefuses : Type 0

@@ -1,19 +1,26 @@
--- A store that is answered names one of the two slices.
-use mathlib.Core.Logic.{_⊎_, inl, inr}
+-- A store that is answered names lent cells: its part has a cell where hint answers, so that it is not the empty one, and lies
+-- in its slice.
 use mathlib.Core.List.{List}
-use mathlib.Core.Path.{_≡_, refl}
-use Prim.Native.Nat.{ℕ}
-use Rattle.rank_sel.specs.Outcome.{answer}
-use Rattle.inventory.specs.Read.{Hint, Place, start, own, over, hintOf, partBy, placeAt, entryOfRank, markNumber, subinventoryOf}
-use Rattle.inventory.specs.declared.Summary.{Summary}
-use Rattle.edge_index_c.specs.Calls.{partNumbers}
+use mathlib.Core.Logic.{inl, inr}
+use mathlib.Core.Path.{refl}
+use Prim.Native.Nat.{ℕ, _<_}
+use native.Mathlib.Omega.{arith}
+use lib.Dec.{ltb}
+use lib.ListN.{getD}
+use Rattle.rank_sel.proofs.Outcome.{answer-is, then-answer, not-refused}
+use Rattle.inventory.specs.Read.{Part, ofInventory, ofSpill, empty, hintOf, subinventoryOf, PartIn, cellCount}
+use Rattle.inventory.proofs.Stored.{store-some, store-in}
+use Rattle.edge_index_c.specs.Calls.{partNumbers, subinventoryC, Named, StoreNames}
+use Rattle.edge_index_c.specs.Codes.{badCode, summaryAt}
 
-part-slice : (t : Summary) (inv : List ℕ) (e : ℕ) (p : Place) → (partNumbers (partBy t inv e p) .slice ≡ 1) ⊎ (partNumbers (partBy t inv e p) .slice ≡ 2)
-part-slice t inv e start = inl refl
-part-slice t inv e (own c j) = inl refl
-part-slice t inv e (over c j) = inr refl
+part-named : (inv sp : List ℕ) (p : Part) → 0 < cellCount p → PartIn inv sp p → Named inv sp (partNumbers p)
+part-named inv sp (ofInventory c n) l i = record { some = l; lent = inl (refl, i) }
+part-named inv sp (ofSpill c n) l i = record { some = l; lent = inr (refl, i) }
+part-named inv sp empty l i = absurd (omega arith)
 
-pub slice-named : (ws : List ℕ) (t : Summary) (inv sp : List ℕ) (r : ℕ) (h : Hint) → hintOf ws t inv sp r ≡ answer h
-    → (partNumbers (subinventoryOf ws t inv sp r) .slice ≡ 1) ⊎ (partNumbers (subinventoryOf ws t inv sp r) .slice ≡ 2)
-unfolding subinventoryOf
-slice-named ws t inv sp r h e = rw e (part-slice t inv (entryOfRank t r) (placeAt t inv (entryOfRank t r) (markNumber t inv r)))
+pub store-names : StoreNames
+unfolding subinventoryC
+store-names ws s inv sp r c e =
+    let t = summaryAt s in
+    let h = then-answer (hintOf ws t inv sp r) _ c (not-refused (ltb 1 (getD s 0 0)) badCode _ c e .1) in
+    rw (← answer-is (h .2)) (part-named inv sp (subinventoryOf ws t inv sp r) (store-some ws t inv sp r (h .0) (h .1)) (store-in ws t inv sp r))

@@ -1,11 +1,12 @@
 -- What each call of include/edge_index.h returns and writes, by the definitions of the entry that it stands for.
 use mathlib.Core.Bool.{Bool, true, false, not}
 use mathlib.Core.List.{List}
+use mathlib.Core.Logic.{_⊎_}
 use mathlib.Core.Path.{_≡_}
-use Prim.Native.Nat.{ℕ}
+use Prim.Native.Nat.{ℕ, _+_, _≤_, _<_}
 use lib.Dec.{ltb}
 use lib.Ieee.{Float}
-use lib.ListN.{getD}
+use lib.ListN.{length, getD}
 use Rattle.rank_sel.specs.Outcome.{Outcome, answer, refused, refuseIf, andThen}
 use Rattle.bit_record.specs.Record.{countOf}
 use Rattle.spacing.specs.Spacing.{planOf}
@@ -97,7 +98,7 @@ pub record Cells : Type 0 where
 abbrev pub cellsAs : ℕ → ℕ → ℕ → Cells
 cellsAs slice first cells = record { slice = slice; first = first; cells = cells }
 
--- store's part is empty only where hint refuses: proofs/Slices.antt
+-- an empty part is never handed out: StoreNames
 abbrev pub partNumbers : Part → Cells
 partNumbers (ofInventory c n) = cellsAs 1 c n
 partNumbers (ofSpill c n) = cellsAs 2 c n
@@ -106,3 +107,12 @@ partNumbers empty = cellsAs 0 0 0
 unfoldable pub subinventoryC : List ℕ → List ℕ → List ℕ → List ℕ → ℕ → Outcome Cells
 subinventoryC ws s inv sp r =
     ifRead s (andThen (hintOf ws (summaryAt s) inv sp r) (λ h. answer (partNumbers (subinventoryOf ws (summaryAt s) inv sp r))))
+
+-- one of the two slices, a cell of it or more, and none past its end
+pub record Named (inv sp : List ℕ) (c : Cells) : Type 0 where
+  pub some : 0 < c .cells
+  pub lent : ((c .slice ≡ 1) × (c .first + c .cells ≤ length inv)) ⊎ ((c .slice ≡ 2) × (c .first + c .cells ≤ length sp))
+
+-- any store that is answered names such cells
+abbrev pub StoreNames : Type 0
+StoreNames = (ws s inv sp : List ℕ) (r : ℕ) (c : Cells) → subinventoryC ws s inv sp r ≡ answer c → Named inv sp c

@@ -12,6 +12,7 @@ use Rattle.rank_sel.specs.Outcome.{Outcome, answer, refused, numberOf, refuseIf
 use Rattle.rank_sel.specs.declared.Refusal.{Refusal}
 use Rattle.rank_sel.specs.Seek.{seek}
 use Rattle.rank_sel.proofs.Numbers.{lt-or-le}
+use Rattle.rank_sel.proofs.Outcome.{then-answer}
 use Rattle.bit_record.specs.Record.{Admitted, selected, lenTooLarge}
 use Rattle.spacing.specs.Spacing.{N, L, M}
 use Rattle.inventory.specs.Index.{stride}
@@ -75,6 +76,12 @@ module _ {ws : List ℕ} {t : Summary} {inv sp : List ℕ} {r : ℕ} where
 
   pub refused-then : {A : Type 0} {y : Refusal} → Refuses ws t inv sp r y → (rest : Outcome A) → refused (numberOf y) ≡ tested ws t inv sp (refuseIf (rankTooLarge t r) 8 rest)
   refused-then w rest = sym (tests-then ws t inv sp r rest ∙ ap (λ (o : Outcome (Unit {0})). andThen o (λ u. rest)) (sym (w .told)))
+
+  -- an answer passed them
+  pub answer-passes : {A : Type 0} (rest : Outcome A) (a : A) → tested ws t inv sp (refuseIf (rankTooLarge t r) 8 rest) ≡ answer a → Passes ws t inv sp r × (rest ≡ answer a)
+  answer-passes rest a e =
+      let p = then-answer (testsOf ws t inv sp r) (λ u. rest) a (sym (tests-then ws t inv sp r rest) ∙ e) in
+      (record { told = sym (p .1) }, p .2)
 
   pub passed : Passes ws t inv sp r → Admitted ws (t .plan .len) × Readable t inv sp r
   unfolding testsOf tested unlawful
@@ -158,15 +165,15 @@ within (answer n) len base p e =
     (n, refl, omega arith)
 within (refused k) len base p e = let z : _≡_ {A = ℕ} 0 1 = cc in absurd (omega arith)
 
-over-place : (s : Shape) (m c o i : ℕ) → isOver (placeBy s m c o i) ≡ true → (k : ℕ) × (j : ℕ) × (placeBy s m c o i ≡ over (o + k) j)
-over-place s m c o i e = go (ltb i (s .from)) (ltb i (nearBy s m)) e
+over-place : (s : Shape) (m c o i : ℕ) → isOver (placeBy s m c o i) ≡ true → (k : ℕ) × (j : ℕ) × (placeBy s m c o i ≡ over (o + k) j) × (nearBy s m ≤ i)
+over-place s m c o i e = go (ltb i (s .from)) (ltb i (nearBy s m)) refl e
   where
-    go : (a b : Bool)
+    go : (a b : Bool) → ltb i (nearBy s m) ≡ b
         → isOver (cond a start (cond b (own (c + (i - s .from) / s .lanes) ((i - s .from) % s .lanes)) (over (o + (i - nearBy s m) / s .lanes) ((i - nearBy s m) % s .lanes)))) ≡ true
-        → (k : ℕ) × (j : ℕ) × (cond a start (cond b (own (c + (i - s .from) / s .lanes) ((i - s .from) % s .lanes)) (over (o + (i - nearBy s m) / s .lanes) ((i - nearBy s m) % s .lanes))) ≡ over (o + k) j)
-    go true b f = let z : _≡_ {A = ℕ} 0 1 = cc in absurd (omega arith)
-    go false true f = let z : _≡_ {A = ℕ} 0 1 = cc in absurd (omega arith)
-    go false false f = ((i - nearBy s m) / s .lanes, (i - nearBy s m) % s .lanes, refl)
+        → (k : ℕ) × (j : ℕ) × (cond a start (cond b (own (c + (i - s .from) / s .lanes) ((i - s .from) % s .lanes)) (over (o + (i - nearBy s m) / s .lanes) ((i - nearBy s m) % s .lanes))) ≡ over (o + k) j) × (nearBy s m ≤ i)
+    go true b g f = let z : _≡_ {A = ℕ} 0 1 = cc in absurd (omega arith)
+    go false true g f = let z : _≡_ {A = ℕ} 0 1 = cc in absurd (omega arith)
+    go false false g f = ((i - nearBy s m) / s .lanes, (i - nearBy s m) % s .lanes, refl, ltb-false i (nearBy s m) g)
 
 -- a rank that is not decoded
 pub record Unread (t : Summary) (inv sp : List ℕ) (r : ℕ) : Type 0 where
@@ -253,12 +260,21 @@ module _ {t : Summary} {inv sp : List ℕ} {r : ℕ} where
   low-by {o = Marked·v.Refused} w = tt
 
 module _ {t : Summary} {inv sp : List ℕ} {r : ℕ} {d : Decoded} (w : ReadAs t inv sp r d) where
-  -- a spilled mark stands at or after the cell that the second cell numbers
-  pub over-low : d .spilled ≡ true → cellAt t inv (entryOfRank t r) 1 < t .«spill_len»
-  unfolding placeAt numberAt
-  over-low e =
+  -- a spilled mark stands at or after the cell that the second cell numbers, and its number past the entry's own lanes
+  over-at : d .spilled ≡ true
+      → (k : ℕ) × (j : ℕ) × (placeAt t inv (entryOfRank t r) (markNumber t inv r) ≡ over (cellAt t inv (entryOfRank t r) 1 + k) j) × (nearBy (shapeAt t inv (entryOfRank t r)) (M (t .plan)) ≤ markNumber t inv r)
+  unfolding placeAt
+  over-at e =
       let s = shapeAt t inv (entryOfRank t r) in
-      let o = over-place s (M (t .plan)) (entryOfRank t r * stride (t .plan) + 1 + s .heads) (cellAt t inv (entryOfRank t r) 1) (markNumber t inv r) (sym (w .spilled) ∙ e) in
+      over-place s (M (t .plan)) (entryOfRank t r * stride (t .plan) + 1 + s .heads) (cellAt t inv (entryOfRank t r) 1) (markNumber t inv r) (sym (w .spilled) ∙ e)
+
+  pub over-past : d .spilled ≡ true → nearBy (shapeAt t inv (entryOfRank t r)) (M (t .plan)) ≤ markNumber t inv r
+  over-past e = over-at e .3
+
+  pub over-low : d .spilled ≡ true → cellAt t inv (entryOfRank t r) 1 < t .«spill_len»
+  unfolding numberAt
+  over-low e =
+      let o = over-at e in
       let m = numbered (w .marked) in
       let n : numberAt t inv sp (entryOfRank t r) (over (cellAt t inv (entryOfRank t r) 1 + o .0) (o .1)) ≡ answer (m .0) = rw (o .2) at (m .1) in
       let f = refuse-passed (leb (t .«spill_len») (cellAt t inv (entryOfRank t r) 1 + o .0)) 10 _ (m .0) (sym n) in

@@ -3,23 +3,23 @@ use mathlib.Core.Bool.{Bool, true, false}
 use mathlib.Core.List.{List}
 use mathlib.Core.Path.{_≡_, refl, sym, ap, _∙_}
 use Prim.Native.Nat.{ℕ, _+_, _*_, _/_, _%_, _^_, _≤_, _<_}
-use native.Mathlib.Nat.{add-zero, sub-zero, lt-of-lt-of-le, mod-lt, mul-le-mul-right, div-mul-le-self}
+use native.Mathlib.Nat.{add-zero, sub-zero, lt-of-lt-of-le, mod-lt, mul-le-mul-right}
 use native.Mathlib.Omega.{arith}
 use lib.Dec.{leb}
 use lib.ListN.{length, getD}
 use lib.Pow.{pow-pos, pow-mono, pow-add, shr-lt}
 use borrow.Author.Tests.{le-leb, lt-leb}
 use Rattle.rank_sel.specs.Outcome.{Outcome, answer, refused, refuseIf}
-use Rattle.spacing.specs.Spacing.{N, L, M, S}
-use Rattle.rank_sel.proofs.Ceil.{below-ceil}
+use Rattle.spacing.specs.Spacing.{L, M, S}
 use Rattle.rank_sel.proofs.Numbers.{ilog2-unique}
-use Rattle.inventory.specs.Index.{stride, entriesOf, inventoryLenOf}
+use Rattle.inventory.specs.Index.{stride, inventoryLenOf}
 use Rattle.inventory.specs.Lanes.{laneOf}
 use Rattle.inventory.specs.Read.{tagged, kindAt, spanAt, quantumAt, shapeAt, Place, start, own, over, placeAt, numberAt, spanTooSmall, markAt, entryOfRank, markNumber, residual}
 use Rattle.inventory.specs.Steps.{headOf, EntryIn, HeadIn, isOver, numbered, numberOfMark, spacingAt, readingOf, marking, Readable}
 use Rattle.inventory.specs.Shape.{shapeOf}
 use Rattle.inventory.specs.declared.Shape.{Shape}
 use Rattle.inventory.proofs.Marks.{quantum-le}
+use Rattle.inventory.proofs.Ranks.{rank-entry}
 use Rattle.inventory.proofs.Reading.{tagged-16, shaped, spot-own, head-read, kind-as, spacing-16, Spotted, own-in, number-own}
 use Rattle.inventory.specs.declared.SpanType.the-variants.{U16}
 use Rattle.inventory.specs.declared.Summary.{Summary}
@@ -29,11 +29,11 @@ use Rattle.inventory.specs.declared.decode.Spot.the-variants.{Own}
 
 -- ---- the entry of a rank below N
 pub entry-in : (t : Summary) (inv sp : List ℕ) (r : ℕ) → Readable t inv sp r → EntryIn t inv (entryOfRank t r)
-unfolding inventoryLenOf entriesOf
+unfolding inventoryLenOf
 entry-in t inv sp r a = record {
   smallM = a .smallM;
   within =
-      let l = mul-le-mul-right (stride (t .plan)) (below-ceil (r / 2 ^ L (t .plan)) (N (t .plan)) (2 ^ L (t .plan)) (pow-pos (L (t .plan))) (omega (arith, div-mul-le-self r (2 ^ L (t .plan)), a .below))) in
+      let l = mul-le-mul-right (stride (t .plan)) (rank-entry (t .plan) r (a .below)) in
       omega (arith, l, a .counted, a .own);
 }
 

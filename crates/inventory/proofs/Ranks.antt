@@ -3,10 +3,15 @@ use Prim.Native.Nat.{ℕ, _+_, _*_, _/_, _%_, _^_, _≤_, _<_}
 use native.Mathlib.Nat.{div-mul-le-self, div-add-mod', mod-lt}
 use native.Mathlib.Omega.{arith}
 use lib.Pow.{pow-pos}
+use Rattle.rank_sel.specs.Numbers.{ceilDiv}
 use Rattle.rank_sel.proofs.Ceil.{below-ceil, ceil-lt}
 use Rattle.spacing.specs.Spacing.{N, L}
 use Rattle.spacing.specs.declared.Parameters.{Parameters}
 use Rattle.inventory.specs.Index.{entriesOf, ranksOf}
+
+-- of n ranks, rank s has its mark among those 2^q apart
+pub mark-among : (s n q : ℕ) → s < n → s / 2 ^ q < ceilDiv n (2 ^ q)
+mark-among s n q h = below-ceil (s / 2 ^ q) n (2 ^ q) (pow-pos q) (omega (arith, div-mul-le-self s (2 ^ q)))
 
 module _ (p : Parameters) where
   pub entry-in : (e : ℕ) → e < entriesOf p → e * 2 ^ L p < N p
@@ -22,7 +27,8 @@ module _ (p : Parameters) where
   ranks-most e = omega arith
 
   pub rank-entry : (r : ℕ) → r < N p → r / 2 ^ L p < entriesOf p
-  rank-entry r h = in-entry (r / 2 ^ L p) (omega (arith, div-mul-le-self r (2 ^ L p)))
+  unfolding entriesOf
+  rank-entry r h = mark-among r (N p) (L p) h
 
   pub rank-sub : (r : ℕ) → r < N p → r % 2 ^ L p < ranksOf p (r / 2 ^ L p)
   unfolding ranksOf

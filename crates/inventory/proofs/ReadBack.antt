@@ -4,7 +4,7 @@ use mathlib.Core.Logic.{⊎-elim}
 use mathlib.Core.Bool.{Bool, true, false, cond}
 use mathlib.Core.List.{List}
 use Prim.Native.Nat.{ℕ, _+_, _-_, _*_, _/_, _%_, _^_, _≤_, _<_}
-use native.Mathlib.Nat.{div-mul-le-self, add-mul, div-add-mod', mod-lt, mod-eq-of-lt, div-lt-iff-lt-mul, lt-of-mul-lt-mul-right}
+use native.Mathlib.Nat.{add-mul, div-add-mod', mod-lt, mod-eq-of-lt, div-lt-iff-lt-mul, lt-of-mul-lt-mul-right}
 use native.Mathlib.Omega.{arith}
 use lib.Arith.{digits-div, digits-mod}
 use lib.Dec.{leb}
@@ -13,7 +13,7 @@ use lib.Pow.{pow-pos, pow-add, pow-mono}
 use borrow.Author.Tests.{lt-ltb, le-ltb, lt-leb, leb-false}
 use Rattle.rank_sel.specs.Numbers.{ceilDiv}
 use Rattle.rank_sel.specs.Outcome.{answer}
-use Rattle.rank_sel.proofs.Ceil.{below-ceil, ceil-lt}
+use Rattle.rank_sel.proofs.Ceil.{ceil-lt}
 use Rattle.rank_sel.proofs.Numbers.{lt-or-le}
 use Rattle.spacing.specs.Spacing.{L, M, S}
 use Rattle.spacing.specs.declared.Parameters.{Parameters}
@@ -28,7 +28,7 @@ use Rattle.inventory.specs.declared.Summary.{Summary}
 use Rattle.inventory.proofs.Marks.{Rising, Marked, entry-marked, lane-in, lane-past, lane-lt, mark-first, bound-small}
 use Rattle.inventory.proofs.Index.{spillStart-more, spillStart-mono}
 use Rattle.inventory.proofs.Placed.{own-first, own-second, own-cell, spill-cell, Placed}
-use Rattle.inventory.proofs.Ranks.{entry-in, ranks-most}
+use Rattle.inventory.proofs.Ranks.{mark-among, entry-in, ranks-most}
 use Rattle.inventory.proofs.Unpack.{pack-lane}
 
 -- ---- the first cell
@@ -88,7 +88,7 @@ room l m s k d h =
     omega (arith, pow-add 2 m 2)
 
 -- the lanes suffice for the marks
-marks-fit : (k : SpanType) (a span l m s ranks i : ℕ) → s ≡ l - m - 2 → ranks ≤ 2 ^ l → i < ceilDiv ranks (2 ^ log2Quantum k span s)
+pub marks-fit : (k : SpanType) (a span l m s ranks i : ℕ) → s ≡ l - m - 2 → ranks ≤ 2 ^ l → i < ceilDiv ranks (2 ^ log2Quantum k span s)
     → i < nearBy (shapeOf k a) m + spilledBy k (ceilDiv ranks (2 ^ log2Quantum k span s)) m * shapeOf k a .lanes
 marks-fit U16 a span l m s ranks i d h c = omega (arith, room l m s i d (omega (arith, ceil-lt i ranks (2 ^ s) (pow-pos s) c)))
 marks-fit U32 a span l m s ranks i d h c = omega (arith, pow-pos m)
@@ -140,7 +140,7 @@ module _ (pos : ℕ → ℕ) (p : Parameters) (e : ℕ) where
   in-mark s =
       let q : ℕ = log2Quantum (kindOf pos p e) (spanOf pos p e) (S p) in
       subst (λ (y : Entry). s < ranksOf p e → s / 2 ^ y .«log2_quantum» < y .marks) (sym entry-by)
-      (λ l. below-ceil (s / 2 ^ q) (ranksOf p e) (2 ^ q) (pow-pos q) (omega (arith, div-mul-le-self s (2 ^ q))))
+      (mark-among s (ranksOf p e) q)
 
   -- the lanes suffice for the marks
   pub marks-placed : S p ≡ L p - M p - 2 → (i : ℕ) → i < entryOf pos p e .marks → i < nearBy (entryOf pos p e .shape) (M p) + entryOf pos p e .spilled * entryOf pos p e .shape .lanes

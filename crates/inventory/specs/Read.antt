@@ -219,6 +219,12 @@ cellsOf inv sp (ofInventory c n) = take n (drop c inv)
 cellsOf inv sp (ofSpill c n) = take n (drop c sp)
 cellsOf inv sp empty = []
 
+-- how many cells it names
+abbrev pub cellCount : Part → ℕ
+cellCount (ofInventory c n) = n
+cellCount (ofSpill c n) = n
+cellCount empty = 0
+
 -- the address of cell c of a lent slice: its block and the offset in it
 abbrev pub addressOf : RefT (List ℕ) → ℕ → ℕ × ℕ
 addressOf s c = (ptr s .0, c * 8 + ptr s .1)
