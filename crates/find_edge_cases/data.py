@@ -50,7 +50,10 @@ a.bin --overhead 1.2345
 a.bin --overhead 1.2.3
 a.bin --overhead 1000000000
 a.bin --samples
+a.bin --samples --help
 a.bin --speed
+--help
+a.bin --help
 a.bin --samples 17
 a.bin 3 4
 a.bin --power 64

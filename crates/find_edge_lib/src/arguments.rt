@@ -23,6 +23,7 @@ enum Word {
     Span,
     Power,
     Overhead,
+    Help,
     Unknown,
     Plain,
 }
@@ -39,9 +40,10 @@ pub struct Request {
     pub edges: usize,
 }
 
-// The request, or a stop: the error line is written.
+// The request, the usage, or a stop: the error line is written.
 pub enum Asked {
     Request(Request),
+    Help,
     Stop,
 }
 
@@ -105,6 +107,9 @@ fn word_of(text: &[u8]) -> Word {
     }
     if check::same(text, b"--overhead") {
         return Word::Overhead;
+    }
+    if check::same(text, b"--help") {
+        return Word::Help;
     }
     if text.len() > 1 {
         if text[0] == b'-' && text[1] == b'-' {
@@ -243,6 +248,7 @@ fn take_word(mut request: Request, text: &[u8], edges: &mut [u64; MOST_EDGES], e
             request.is_zeros = true;
             Asked::Request(request)
         }
+        Word::Help => Asked::Help,
         Word::Unknown => {
             report::unknown_option(err, text);
             Asked::Stop
@@ -291,12 +297,13 @@ pub fn parse_arguments(args: &[u8], edges: &mut [u64; MOST_EDGES], err: i32) -> 
     let mut from = 0;
     while from < args.len() {
         let to = bytes::scan::find(args, from, args.len(), 0);
-        match take_argument(request, &args[from..to], edges, err) {
+        let asked = take_argument(request, &args[from..to], edges, err);
+        match asked {
             Asked::Request(next) => {
                 request = next;
             }
-            Asked::Stop => {
-                return Asked::Stop;
+            _ => {
+                return asked;
             }
         }
         if to == args.len() {

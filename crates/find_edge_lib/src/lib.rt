@@ -261,6 +261,7 @@ pub fn find_edge(
     let mut edges = [0u64; MOST_EDGES];
     match parse_arguments(args, &mut edges, err) {
         Asked::Request(request) => run_request(request, words, inventory, spill, &edges, out, err),
+        Asked::Help => report::usage(out),
         Asked::Stop => {}
     }
 }

@@ -22,6 +22,29 @@ fn begin(fd: i32, text: &[u8]) {
     say(fd, text);
 }
 
+pub fn usage(fd: i32) {
+    say(
+        fd,
+        b"\
+find_edge [FILE] [EDGE ..] [--zeros] [--samples N]
+          [--span N | --power L | --overhead P] [--help]
+
+FILE          the capture, eight samples to a byte; - or none: standard input
+EDGE          an edge to find, by its number from 0; several in rising order
+--zeros       find the samples without an edge instead
+--samples N   take the first N samples only
+--span N      an index entry for about every N samples; the default, N 4096
+--power L     an index entry for every 2^L edges
+--overhead P  aim at an index of P percent of the capture's size, as 12.5
+--help        print this text and stop
+
+With edge numbers it prints the count, each edge's sample, and the period from
+the edge before it. Without them it prints the count, the spacing (L, M, S) and
+the cells that the index takes.
+",
+    );
+}
+
 pub fn not_a_number(fd: i32, text: &[u8]) {
     begin(fd, text);
     say(fd, b"' is not a number: write digits only, as 40000\n");
@@ -46,7 +69,7 @@ pub fn unknown_option(fd: i32, text: &[u8]) {
     begin(fd, text);
     say(
         fd,
-        b"' is no option: use --zeros, --samples N, --span N, --power L or --overhead P\n",
+        b"' is no option: use --zeros, --samples N, --span N, --power L, --overhead P or --help\n",
     );
 }
 

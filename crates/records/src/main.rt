@@ -573,6 +573,23 @@ fn damage_to_a() {
     show(dwell(&a, ones, &back, &none, 0, 2));
 }
 
+// Only check finds a stale index: jump goes by the cells, here those of edges 1, 5, 6, 9, and answers 6, not 4.
+fn stale_index() {
+    let a = [0x252u64];
+    let none = [0u64; 0];
+    let ones = summary_of(Polarity::Ones, 10, 4, 1, 0, 5, 0);
+    let stale = [1u64, 0x40000, 6, 0x30000, 10];
+    show_select(
+        b"A, index of edges 1, 5, 6, 9, rank 1",
+        &a,
+        ones,
+        &stale,
+        &none,
+        1,
+    );
+    check_a(ones, &stale);
+}
+
 fn summaries_of_a() {
     let a = [0x252u64];
     let none = [0u64; 0];
@@ -762,6 +779,7 @@ fn main() {
     readers_of_c();
     damage_to_c();
     damage_to_a();
+    stale_index();
     summaries_of_a();
     summary_checks_of_a();
     cell_checks_of_a();

@@ -31,11 +31,8 @@ part-take-argument-end c = search needs
 take-argument-requires : tie.Need-take-argument-requires Inv-loop μ-loop
 take-argument-requires c κs = search needs
 
-enum-known-next : tie.Need-enum-known-next Inv-loop μ-loop
-enum-known-next c = search needs
-
-enum-told : tie.Need-enum-told Inv-loop μ-loop
-enum-told c = search needs
+enum-known-asked : tie.Need-enum-known-asked Inv-loop μ-loop
+enum-known-asked c = search needs
 
 returns : tie.Need-returns Inv-loop μ-loop
 returns c = search needs
@@ -68,8 +65,7 @@ parse-arguments-spec =
     part-take-argument-start
     part-take-argument-end
     take-argument-requires
-    enum-known-next
-    enum-told
+    enum-known-asked
     returns
     add-from
     loop-less
