@@ -82,7 +82,8 @@ uint32_t edge_index_build(const uint64_t *words, size_t words_len, uint64_t len,
                           edge_index_summary *summary);
 
 /* Check: yes is 1 where summary and cells are those that build would write, else 0. An index that passed answers every
- * call below rightly, wherever it came from.
+ * call below rightly, wherever it came from, as long as the record and the cells within the counts stay as they are. No call
+ * below finds a stale index: after a restart, check before the first jump, and build anew where yes is 0.
  * Refusals 1 to 7, the last two by the counts of record and choice. */
 uint32_t edge_index_check(const uint64_t *words, size_t words_len, uint64_t len, uint32_t polarity,
                           uint32_t kind, uint64_t value, double percentage, uint32_t log2,
@@ -90,26 +91,27 @@ uint32_t edge_index_check(const uint64_t *words, size_t words_len, uint64_t len,
                           const uint64_t *inventory, size_t inventory_len, const uint64_t *spill, size_t spill_len,
                           uint64_t *yes);
 
-/* Jump: the position of the edge of this rank.
+/* Jump: the position of the edge of this rank, on an index built or checked; on other cells, where they lead.
  * Refusals, in this order: 1, 2, 9, 6, 7, 8, 10. */
 uint32_t edge_index_select(const uint64_t *words, size_t words_len, const edge_index_summary *summary,
                            const uint64_t *inventory, size_t inventory_len, const uint64_t *spill, size_t spill_len,
                            uint64_t rank, uint64_t *position);
 
-/* Hint: the mark that a jump to this rank starts from, the position of an edge at or before it, and that edge's rank.
+/* Hint: the mark that a jump to this rank starts from, and the mark's rank. On an index built or checked the mark is the
+ * position of the edge of that rank, which is the one asked for or before it; on other cells it is what they say.
  * Refused as jump is, but that it looks for no bit from the mark on. */
 uint32_t edge_index_hint(const uint64_t *words, size_t words_len, const edge_index_summary *summary,
                          const uint64_t *inventory, size_t inventory_len, const uint64_t *spill, size_t spill_len,
                          uint64_t rank, uint64_t *mark, uint64_t *mark_rank);
 
 /* Store: where the mark of this rank is recorded. slice: 1 the inventory, 2 the spill; first: the part's first cell;
- * cells: how many it has, all within the lent slice.
+ * cells: how many it has, at least one, all within the lent slice.
  * Refused as hint is. */
 uint32_t edge_index_subinventory(const uint64_t *words, size_t words_len, const edge_index_summary *summary,
                                  const uint64_t *inventory, size_t inventory_len, const uint64_t *spill, size_t spill_len,
                                  uint64_t rank, uint64_t *slice, uint64_t *first, uint64_t *cells);
 
-/* Dwell: how many samples from the edge of rank a to that of rank b.
+/* Dwell: how many samples from the edge of rank a to that of rank b, as jump finds them.
  * Refused as jump is, for both ranks, and by 11 after 8. */
 uint32_t edge_index_dwell(const uint64_t *words, size_t words_len, const edge_index_summary *summary,
                           const uint64_t *inventory, size_t inventory_len, const uint64_t *spill, size_t spill_len,
