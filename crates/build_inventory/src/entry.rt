@@ -138,7 +138,7 @@ pub fn next_cell(words: &[u64], plan: Parameters, x: Entry, c: Cursor) -> Step
 }
 
 // The one place where a cell is written, a zero too: what was lent may hold anything.
-pub fn put(cells: &mut [u64], i: usize, cell: u64)
+pub fn write_cell(cells: &mut [u64], i: usize, cell: u64)
     requires { ⌜ i < length (now cells) ⌝ }
     ensures { λ r. ⌜ now (cells .exit) ≡ set (now (cells .entry)) i cell ⌝ }
 {
@@ -163,7 +163,7 @@ fn write_cells(
     while i < n {
         let step = next_cell(words, plan, x, Cursor { at, k });
         let cursor = step.cursor;
-        put(cells, i, step.value);
+        write_cell(cells, i, step.value);
         at = cursor.at;
         k = cursor.k;
         i += 1;
@@ -191,8 +191,8 @@ fn write_heads(cells: &mut [u64], first: u64, second: u64)
     requires { ⌜ 2 ≤ length (now cells) ⌝ }
     ensures { λ r. ⌜ now (cells .exit) ≡ set (set (now (cells .entry)) 0 first) 1 second ⌝ }
 {
-    put(cells, 0, first);
-    put(cells, 1, second);
+    write_cell(cells, 0, first);
+    write_cell(cells, 1, second);
 }
 
 // An entry's own cells. The stream of a kind without a second head begins at the second cell, over what is put there.

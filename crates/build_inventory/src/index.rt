@@ -16,7 +16,7 @@ use crate::entry::entry_at;
 use crate::entry::first_cursor;
 use crate::entry::next_cell;
 use crate::entry::or_end;
-use crate::entry::put;
+use crate::entry::write_cell;
 use crate::entry::write_entry;
 use bit_record::seek_far;
 use inventory::Entry;
@@ -111,7 +111,7 @@ pub fn fill(words: &[u64], plan: Parameters, inventory: &mut [u64], spill: &mut 
         start = x.next;
         e += 1;
     }
-    put(inventory, at, start);
+    write_cell(inventory, at, start);
 }
 
 // Whether cells agree with the stream, and where it stands then.

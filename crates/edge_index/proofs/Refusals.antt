@@ -21,7 +21,7 @@ use Rattle.inventory.specs.Read.{kindAt, spanAt, shapeAt, Place, start, own, ov
 use Rattle.inventory.specs.declared.SpanType.{SpanType}
 use Rattle.inventory.specs.declared.SpanType.the-variants.{U16, U32, U64}
 use Rattle.inventory.specs.declared.Summary.{Summary}
-use Rattle.inventory.proofs.Stored.{store-some, store-in, store-length}
+use Rattle.inventory.proofs.PartSize.{store-some, store-in, store-length}
 use Rattle.build_inventory.specs.Build.{fitted, measured, sizeOf, buildOf, checkOf}
 use Rattle.edge_index.specs.Refusals.{Conditions, InOrder, ofRecord, ofChoice, ofIndex, planIn, summaryIn, toSix, toSeven, Only10, MakersRefuse, ReadersRefuse, InWordRefuses}
 

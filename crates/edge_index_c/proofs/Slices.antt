@@ -9,7 +9,7 @@ use lib.Dec.{ltb}
 use lib.ListN.{getD}
 use Rattle.rank_sel.proofs.Outcome.{answer-is, then-answer, not-refused}
 use Rattle.inventory.specs.Read.{Part, ofInventory, ofSpill, empty, hintOf, subinventoryOf, PartIn, cellCount}
-use Rattle.inventory.proofs.Stored.{store-some, store-in}
+use Rattle.inventory.proofs.PartSize.{store-some, store-in}
 use Rattle.edge_index_c.specs.Calls.{partNumbers, subinventoryC, Named, StoreNames}
 use Rattle.edge_index_c.specs.Codes.{badCode, summaryAt}
 

@@ -11,4 +11,4 @@ pub mod Parts
 pub mod Unpack
 pub mod Placed
 pub mod ReadBack
-pub mod Stored
+pub mod PartSize

@@ -1,3 +1,4 @@
+-- After i turns the stream's first i cells stand in front of what was lent, each written as `next_cell` gave it.
 use mathlib.Core.Path.{_≡_, refl, ap, _∙_}
 use mathlib.Core.List.{_++_}
 use Prim.Native.Nat.{ℕ, _+_, _-_, _*_, _≤_}
@@ -30,8 +31,8 @@ next-cell-requires c κs =
     let r = c .before .before .before .before .pre in
     (r .0, r .1, c .before .loop .inv .3, omega (arith, few-all (c .before .loop .i) (a .x .shape .lanes) (marked (a .words .now) (a .plan) (r .0) (a .x) (r .1) .few-lanes)))
 
-put-requires : tie.Need-put-requires Inv-loop μ-loop
-put-requires c κs = omega arith
+write-cell-requires : tie.Need-write-cell-requires Inv-loop μ-loop
+write-cell-requires c κs = omega arith
 
 add-i : tie.Need-add-i Inv-loop μ-loop
 add-i c = omega arith
@@ -41,17 +42,17 @@ loop-less c = omega arith
 
 loop-again : tie.Need-loop-again Inv-loop μ-loop
 loop-again c =
-    let at-put = c .before .before in
-    let at-cell = at-put .before .before .before in
+    let at-write = c .before .before in
+    let at-cell = at-write .before .before .before in
     let at-loop = at-cell .before .before in
     let a = at-loop .before .before .before .args in
     let l = at-loop .loop in
     let e = at-cell .next-cell .ensures in (
       omega arith,
-      at-put .put .kept .0 ∙ l .inv .1,
+      at-write .write-cell .kept .0 ∙ l .inv .1,
       omega (arith, e .number, l .inv .2, turn-more (l .i) (a .x .shape .lanes)),
       e .stands,
-      rw (at-put .put .ensures)
+      rw (at-write .write-cell .ensures)
           (stream-more (posIn (a .words .now) (a .plan)) (a .x) (a .c .k) (a .cells .now) (l .cells) (l .i) (l .k) (at-cell .next-cell .result .value) (l .inv .4) (omega arith) (l .inv .2) (e .gave)),
     )
 
@@ -73,7 +74,7 @@ write-cells-spec =
     μ-loop
     loop-holds
     next-cell-requires
-    put-requires
+    write-cell-requires
     add-i
     loop-less
     loop-again

@@ -1,3 +1,4 @@
+-- The heads are written over the whole part; the stream then fills the part behind them, and `own-made` joins the two.
 use mathlib.Core.Path.{_≡_, refl, ap, _∙_}
 use mathlib.Core.List.{List}
 use Prim.Native.Nat.{ℕ, _+_, _-_, _^_, _≤_}

@@ -1,3 +1,4 @@
+-- After e turns the cells of the entries before e stand in front of what was lent (`Standing`); the closing cell goes behind the last.
 use mathlib.Core.Path.{_∙_}
 use Prim.Native.Nat.{ℕ, _+_, _-_, _≤_, _<_}
 use native.Mathlib.Omega.{arith}
@@ -124,11 +125,11 @@ loop-again c =
     stand-more (posIn (a .words .now) (a .plan)) (a .plan) (a .inventory .now) (a .spill .now) (r .cells) (r .spills) (l .inventory) (l .spill) (l .e) (l .at) (l .spilled) (l .start) (l .inv) (below (c .before .before .before .before .before .before .before .before)) (x .result) (x .ensures)
     (w .last .1 .1 .1 .1 .0) (w .last .1 .1 .1 .1 .1 .0) (c .before .before .before .before .before .before .before .before .before .before .before .entry-len .result) (c .before .before .before .before .before .before .before .before .before .before .before .entry-len .ensures) (w .ensures) (w .kept .1 .1 .1 .1 .0) (w .kept .1 .1 .1 .1 .1 .0)
 
-put-requires : tie.Need-put-requires Inv-loop μ-loop
-put-requires c κs = end (c .before)
+write-cell-requires : tie.Need-write-cell-requires Inv-loop μ-loop
+write-cell-requires c κs = end (c .before)
 
 same-length : tie.Need-same-length Inv-loop μ-loop
-same-length c = c .before .before .put .kept .0 ∙ c .before .before .before .before .before .loop .inv .long
+same-length c = c .before .before .write-cell .kept .0 ∙ c .before .before .before .before .before .loop .inv .long
 
 same-length-2 : tie.Need-same-length-2 Inv-loop μ-loop
 same-length-2 c = c .before .before .before .before .before .loop .inv .spill-long
@@ -140,7 +141,7 @@ returns c =
     let a = s .args in
     let r = s .pre in
     let l = at-loop .loop in
-    rw (c .before .before .put .ensures)
+    rw (c .before .before .write-cell .ensures)
     (stand-last (posIn (a .words .now) (a .plan)) (a .plan) (a .inventory .now) (a .spill .now) (r .cells) (r .spills) (l .inventory) (l .spill) (l .e) (l .at) (l .spilled) (l .start) (l .inv) (omega (arith, c .before .before .before .before .before .before .before .before .entry-count .ensures, l .inv .reached .within)))
 
 pub fill-spec : {M : Type 1} → statement M
@@ -168,7 +169,7 @@ fill-spec =
     add-e
     loop-less
     loop-again
-    put-requires
+    write-cell-requires
     same-length
     same-length-2
     returns)
