@@ -1,7 +1,7 @@
 -- What each call of include/edge_index.h returns and writes, by the definitions of the entry that it stands for.
 use mathlib.Core.Bool.{Bool, true, false, not}
 use mathlib.Core.List.{List}
-use mathlib.Core.Logic.{_⊎_}
+use mathlib.Core.Logic.{_⊎_, _↔_}
 use mathlib.Core.Path.{_≡_}
 use Prim.Native.Nat.{ℕ, _+_, _≤_, _<_}
 use lib.Dec.{ltb}
@@ -116,3 +116,7 @@ pub record Named (inv sp : List ℕ) (c : Cells) : Type 0 where
 -- any store that is answered names such cells
 abbrev pub StoreNames : Type 0
 StoreNames = (ws s inv sp : List ℕ) (r : ℕ) (c : Cells) → subinventoryC ws s inv sp r ≡ answer c → Named inv sp c
+
+-- store refuses exactly where hint does, by the same number
+abbrev pub StoreRefuses : Type 0
+StoreRefuses = (ws s inv sp : List ℕ) (r n : ℕ) → (subinventoryC ws s inv sp r ≡ refused n) ↔ (hintC ws s inv sp r ≡ refused n)

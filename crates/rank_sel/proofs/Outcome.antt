@@ -1,6 +1,7 @@
 -- Laws of outcomes.
 use mathlib.Core.Bool.{Bool, true, false}
-use mathlib.Core.Path.{_≡_, refl}
+use mathlib.Core.Logic.{_↔_}
+use mathlib.Core.Path.{_≡_, refl, sym, ap}
 use Prim.Native.Nat.{ℕ}
 use native.Mathlib.Omega.{arith}
 use Rattle.rank_sel.specs.Outcome.{Outcome, answer, refused, refuseIf, andThen}
@@ -21,3 +22,13 @@ then-answer (refused n) go b e = never e
 pub not-refused : {A : Type 0} (t : Bool) (n : ℕ) (o : Outcome A) (a : A) → refuseIf t n o ≡ answer a → (t ≡ false) × (o ≡ answer a)
 not-refused true n o a e = never e
 not-refused false n o a e = (refl, e)
+
+-- a refusal's number stays, whatever an answer would be
+refused-as : {A B : Type 0} {m n : ℕ} → _≡_ {A = Outcome A} (refused m) (refused n) → _≡_ {A = Outcome B} (refused m) (refused n)
+refused-as {m = m} {n = n} e = let k : m ≡ n = cc in ap refused k
+
+-- what only alters an answer is refused exactly as that is
+pub refused-on : {A B : Type 0} (t : Bool) (k : ℕ) (o : Outcome A) (f : A → B) (n : ℕ) → (refuseIf t k (andThen o (λ a. answer (f a))) ≡ refused n) ↔ (refuseIf t k o ≡ refused n)
+refused-on true k o f n = (refused-as, refused-as)
+refused-on false k (answer a) f n = (λ e. never (sym e), λ e. never (sym e))
+refused-on false k (refused m) f n = (refused-as, refused-as)
