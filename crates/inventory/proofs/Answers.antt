@@ -12,7 +12,7 @@ use Rattle.rank_sel.specs.Outcome.{Outcome, answer, refused, numberOf, refuseIf
 use Rattle.rank_sel.specs.declared.Refusal.{Refusal}
 use Rattle.rank_sel.specs.Seek.{seek}
 use Rattle.rank_sel.proofs.Numbers.{lt-or-le}
-use Rattle.rank_sel.proofs.Outcome.{then-answer}
+use Rattle.rank_sel.proofs.Outcome.{then-answer, then-refused}
 use Rattle.bit_record.specs.Record.{Admitted, selected, lenTooLarge}
 use Rattle.spacing.specs.Spacing.{N, L, M}
 use Rattle.inventory.specs.Index.{stride}
@@ -152,10 +152,6 @@ then-some : {A B : Type 0} (o : Outcome A) (go : A → B) (b : B) → answer b �
 then-some (answer a) go b e = (a, refl, cc)
 then-some (refused n) go b e = let z : _≡_ {A = ℕ} 0 1 = cc in absurd (omega arith)
 
-then-none : {A B : Type 0} (o : Outcome A) (go : A → B) (n : ℕ) → refused n ≡ andThen o (λ a. answer (go a)) → o ≡ refused n
-then-none (answer a) go n e = let z : _≡_ {A = ℕ} 0 1 = cc in absurd (omega arith)
-then-none (refused k) go n e = cc
-
 -- a number, and the mark that it gives
 within : (o : Outcome ℕ) (len base p : ℕ) → answer p ≡ andThen o (λ n. refuseIf (leb len (base + n)) 10 (answer (base + n))) → (n : ℕ) × (o ≡ answer n) × (p < len)
 within (answer n) len base p e =
@@ -204,11 +200,11 @@ module _ {t : Summary} {inv sp : List ℕ} {r : ℕ} where
       subst (λ (x : ℕ × ℕ × Bool). MarkedAs t inv sp r (x .0) (x .1) (x .2)) (sym (s .2)) (read-by (Decoding·v.Mark (s .0)) (s .0) refl (sym (s .1)) .marked)
 
   pub unmarked-by : (o : Marked) → o ≡ Marked·v.Refused → marked o ≡ marking (readingOf t inv sp r) → Unread t inv sp r
-  unmarked-by o eo e = record { told = sym (then-none (readingOf t inv sp r) _ 10 (sym (ap marked eo) ∙ e)) }
+  unmarked-by o eo e = record { told = sym (then-refused (readingOf t inv sp r) _ 10 .0 (sym e ∙ ap marked eo)) }
 
   unmarked : Unread t inv sp r → markAt t inv sp (entryOfRank t r) (markNumber t inv r) ≡ refused 10
   unfolding readingOf
-  unmarked w = then-none (markAt t inv sp (entryOfRank t r) (markNumber t inv r)) _ 10 (w .told)
+  unmarked w = then-refused (markAt t inv sp (entryOfRank t r) (markNumber t inv r)) _ 10 .0 (sym (w .told))
 
   pub decode-none : Unread t inv sp r → refused 10 ≡ decode t inv sp r
   unfolding decode

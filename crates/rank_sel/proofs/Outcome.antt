@@ -28,7 +28,11 @@ refused-as : {A B : Type 0} {m n : ℕ} → _≡_ {A = Outcome A} (refused m) (r
 refused-as {m = m} {n = n} e = let k : m ≡ n = cc in ap refused k
 
 -- what only alters an answer is refused exactly as that is
+pub then-refused : {A B : Type 0} (o : Outcome A) (f : A → B) (n : ℕ) → (andThen o (λ a. answer (f a)) ≡ refused n) ↔ (o ≡ refused n)
+then-refused (answer a) f n = (λ e. never (sym e), λ e. never (sym e))
+then-refused (refused m) f n = (refused-as, refused-as)
+
+-- behind a test too
 pub refused-on : {A B : Type 0} (t : Bool) (k : ℕ) (o : Outcome A) (f : A → B) (n : ℕ) → (refuseIf t k (andThen o (λ a. answer (f a))) ≡ refused n) ↔ (refuseIf t k o ≡ refused n)
 refused-on true k o f n = (refused-as, refused-as)
-refused-on false k (answer a) f n = (λ e. never (sym e), λ e. never (sym e))
-refused-on false k (refused m) f n = (refused-as, refused-as)
+refused-on false k o f n = then-refused o f n
