@@ -2,3 +2,4 @@ pub mod Record
 pub mod Seek
 pub mod Same
 pub mod Counted
+pub mod Bits

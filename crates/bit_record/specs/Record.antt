@@ -1,19 +1,20 @@
 -- A record and what is selected in it. Document 01, "What it covers".
 use mathlib.Core.Bool.{Bool, not, _&&_}
-use mathlib.Core.List.{List}
+use mathlib.Core.List.{List, [], _∷_}
 use mathlib.Core.Option.{Option, none, some}
 use mathlib.Core.Path.{_≡_}
 use Prim.Native.Nat.{ℕ, _+_, _-_, _*_, _/_, _%_, _^_, _≤_, _<_}
 use lib.Dec.{ltb}
 use lib.ListN.{length, getD}
 use Rattle.rank_sel.specs.Numbers.{ceilDiv}
-use Rattle.rank_sel.specs.Outcome.{Outcome, answer, refuseIf}
+use Rattle.rank_sel.specs.Outcome.{Outcome, answer, Conditions, refuseBy}
 use Rattle.rank_sel.specs.Rank.{rank}
+use Rattle.rank_sel.specs.Seek.{select}
 use Rattle.select_in_word.specs.Bit.{bit}
 use Rattle.bit_record.specs.declared.Polarity.{Polarity}
 use Rattle.bit_record.specs.declared.Polarity.the-variants.{Ones, Zeros}
-use Rattle.bit_record.specs.declared.Place.{Place}
-use Rattle.bit_record.specs.declared.Place.the-variants as Place·v
+use Rattle.bit_record.specs.declared.RecordSeek.{RecordSeek}
+use Rattle.bit_record.specs.declared.RecordSeek.the-variants as RecordSeek·v
 
 -- bit p is bit p mod 64, lowest first, of word p div 64
 unfoldable pub bitAt : List ℕ → ℕ → Bool
@@ -31,6 +32,10 @@ selected pol ws len p = ltb p len && chosen pol (bitAt ws p)
 unfoldable pub numSelected : Polarity → List ℕ → ℕ → ℕ
 numSelected pol ws len = rank (selected pol ws len) len
 
+-- the bit of rank r: the selected position with exactly r others before it
+abbrev pub bitOf : List ℕ → ℕ → Polarity → ℕ → ℕ
+bitOf ws len pol = select (selected pol ws len) len
+
 -- the conditions of refusals 1 and 2
 abbrev pub lenTooLarge : ℕ → Bool
 lenTooLarge len = ltb (2 ^ 62 - 1) len
@@ -38,12 +43,15 @@ lenTooLarge len = ltb (2 ^ 62 - 1) len
 abbrev pub tooFewWords : List ℕ → ℕ → Bool
 tooFewWords ws len = ltb (length ws) (ceilDiv len 64)
 
-unfoldable pub countOf : List ℕ → ℕ → Polarity → Outcome ℕ
-countOf ws len pol = refuseIf (lenTooLarge len) 1 (refuseIf (tooFewWords ws len) 2 (answer (numSelected pol ws len)))
+abbrev pub ofRecord : List ℕ → ℕ → Conditions
+ofRecord ws len = (lenTooLarge len, 1) ∷ (tooFewWords ws len, 2) ∷ []
 
-abbrev pub found : Place → Option ℕ
-found (Place·v.At p) = some p
-found Place·v.Nowhere = none
+unfoldable pub countOf : List ℕ → ℕ → Polarity → Outcome ℕ
+countOf ws len pol = refuseBy (ofRecord ws len) (answer (numSelected pol ws len))
+
+abbrev pub found : RecordSeek → Option ℕ
+found (RecordSeek·v.At p) = some p
+found RecordSeek·v.Nowhere = none
 
 -- a record that is turned down by neither 1 nor 2
 pub record Admitted (ws : List ℕ) (len : ℕ) : Type 0 where

@@ -1,13 +1,15 @@
 // One record: lent words of which the first `len` bits count, and a polarity that says which of these are selected.
 ghost use mathlib.Core.Path.{_≡_};
-ghost use Prim.Native.Nat.{_+_, _-_, _*_, _^_, _≤_, _<_};
+ghost use Prim.Native.Nat.{_+_, _-_, _*_, _/_, _^_, _≤_, _<_};
 ghost use lib.ListN.{length};
-ghost use Rattle.rank_sel.specs.Outcome.{answered};
+ghost use Rattle.rank_sel.specs.Outcome.{answered, testBy, tested as testedAs};
 ghost use Rattle.rank_sel.specs.Seek.{seek};
 ghost use Rattle.select_in_word.specs.Holds.{Holds};
-ghost use Rattle.bit_record.specs.Record.{Admitted, CountsWords, complemented, countOf, found, selected};
+ghost use Rattle.bit_record.specs.Record.{Admitted, CountsWords, bitAt, chosen, complemented, countOf, found, ofRecord, selected};
 use rank_sel::Answer;
 use rank_sel::Refusal;
+use rank_sel::Tested;
+use rank_sel::reason;
 use select_in_word::WordSeek;
 use select_in_word::count_ones;
 use select_in_word::low_bits;
@@ -20,9 +22,23 @@ pub enum Polarity {
     Zeros,
 }
 
-pub enum Place {
+// What a seek finds in a record.
+pub enum RecordSeek {
     At(u64),
     Nowhere,
+}
+
+// Refusals 1 and 2: the one test of a record.
+pub fn test_record(words: &[u64], len: u64) -> Tested
+    ensures { λ r. ⌜ testedAs r ≡ testBy (ofRecord (now (words .entry)) len) ⌝ }
+{
+    if len > 0x3fff_ffff_ffff_ffff {
+        return Tested::Refused(Refusal::LenTooLarge);
+    }
+    if (words.len() as u64) < (len + 63) / 64 {
+        return Tested::Refused(Refusal::TooFewWords);
+    }
+    Tested::Passed
 }
 
 // The word whose ones are the bits that the polarity selects.
@@ -32,6 +48,18 @@ fn complement_zeros(word: u64, polarity: Polarity) -> u64
     match polarity {
         Polarity::Ones => word,
         Polarity::Zeros => !word,
+    }
+}
+
+// Whether a position below `len` is selected.
+pub fn is_selected(words: &[u64], polarity: Polarity, p: u64) -> bool
+    requires { ⌜ p / 64 < length (now words) ⌝ }
+    ensures { λ r. ⌜ r ≡ chosen polarity (bitAt (now (words .entry)) p) ⌝ }
+{
+    let is_one = (words[(p / 64) as usize] >> (p % 64)) % 2 == 1;
+    match polarity {
+        Polarity::Ones => is_one,
+        Polarity::Zeros => !is_one,
     }
 }
 
@@ -63,12 +91,10 @@ fn count_words(words: &[u64], first: usize, n: usize, polarity: Polarity) -> u64
 pub fn count(words: &[u64], len: u64, polarity: Polarity) -> Answer
     ensures { λ r. ⌜ answered r ≡ countOf (now (words .entry)) len polarity ⌝ }
 {
-    if len > 0x3fff_ffff_ffff_ffff {
-        return Answer::Refused(Refusal::LenTooLarge);
-    }
-    if (words.len() as u64) < (len + 63) / 64 {
-        return Answer::Refused(Refusal::TooFewWords);
-    }
+    let tested = test_record(words, len);
+    let Tested::Passed = tested else {
+        return Answer::Refused(reason(tested));
+    };
     let full = (len / 64) as usize;
     let total = count_words(words, 0, full, polarity);
     if len % 64 == 0 {
@@ -79,7 +105,7 @@ pub fn count(words: &[u64], len: u64, polarity: Polarity) -> Answer
 
 // The selected position at or after `from` with exactly `k` selected between, `from` included. Every reading of
 // the record's bits beyond the count goes through here, word by word.
-pub fn seek_from(words: &[u64], len: u64, polarity: Polarity, from: u64, k: u64) -> Place
+pub fn seek_from(words: &[u64], len: u64, polarity: Polarity, from: u64, k: u64) -> RecordSeek
     requires { ⌜ Admitted (now words) len ⌝ }
     ensures { λ r. ⌜ found r ≡ seek (selected polarity (now (words .entry)) len) (len - from) from k ⌝ }
 {
@@ -89,26 +115,26 @@ pub fn seek_from(words: &[u64], len: u64, polarity: Polarity, from: u64, k: u64)
         let shift = at % 64;
         let word = selected_word(words, (at / 64) as usize, len, polarity) >> shift;
         match seek_in_word(word, remaining) {
-            WordSeek::At(p) => return Place::At(at + p),
+            WordSeek::At(p) => return RecordSeek::At(at + p),
             WordSeek::Past(ones) => {
                 remaining -= ones;
                 at += 64 - shift;
             }
         }
     }
-    Place::Nowhere
+    RecordSeek::Nowhere
 }
 
 // The words that `seek_far` counts at a time.
 const BLOCK: usize = 8;
 
 // The same for a position that is likely far off: blocks that end before it are counted whole.
-pub fn seek_far(words: &[u64], len: u64, polarity: Polarity, from: u64, k: u64) -> Place
+pub fn seek_far(words: &[u64], len: u64, polarity: Polarity, from: u64, k: u64) -> RecordSeek
     requires { ⌜ Admitted (now words) len × (k ≤ 2 ^ 63) ⌝ }
     ensures { λ r. ⌜ found r ≡ seek (selected polarity (now (words .entry)) len) (len - from) from k ⌝ }
 {
     if len <= from {
-        return Place::Nowhere;
+        return RecordSeek::Nowhere;
     }
     let full = (len / 64) as usize;
     let mut i = (from / 64) as usize;

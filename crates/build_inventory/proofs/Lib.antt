@@ -3,6 +3,6 @@ pub mod Positions
 pub mod Stream
 pub mod Turns
 pub mod Fill
-pub mod Compare
+pub mod Comparing
 pub mod Outcomes
 pub mod Summaries

@@ -1,43 +1,56 @@
--- What the outcomes say: a plan that is answered, a build that is admitted, a check that says yes.
+-- What the outcomes say: of a plan that is fitted, of a build that is not turned down, and of the cells that it leaves.
 use mathlib.Core.Path.{_≡_, refl, sym, ap, subst, _∙_}
-use mathlib.Core.Bool.{Bool, true, false}
 use mathlib.Core.List.{List, _++_}
 use Prim.Native.Nat.{ℕ, _≤_}
+use native.Mathlib.Omega.{arith}
 use lib.Dec.{ltb}
 use lib.ListN.{drop}
 use borrow.Author.Tests.{le-ltb, ltb-false}
 use Rattle.rank_sel.specs.Outcome.{Outcome, answer, refused, numberOf, refuseIf, andThen}
 use Rattle.rank_sel.specs.declared.Refusal.{Refusal}
-use Rattle.rank_sel.proofs.Outcome.{answer-is, not-refused, then-answer}
+use Rattle.rank_sel.proofs.Outcome.{answer-is, then-answer, not-refused, refuse-then}
 use Rattle.bit_record.specs.declared.Polarity.{Polarity}
 use Rattle.spacing.specs.Spacing.{PlanOf, planOf}
 use Rattle.spacing.specs.declared.Choice.{Choice}
 use Rattle.spacing.specs.declared.Parameters.{Parameters}
 use Rattle.spacing.proofs.Facts.{plan-facts}
 use Rattle.inventory.specs.Index.{inventoryLenOf, inventoryOf, spillOf, summaryOf}
-use Rattle.inventory.specs.declared.Summary.{Summary}
-use Rattle.build_inventory.specs.Build.{fitted, measured, buildOf, BuiltAs}
+use Rattle.inventory.specs.declared.summary.Summary.{Summary}
+use Rattle.build_inventory.specs.Build.{Sizes, fitted, buildFrom, buildOf, BuiltAs}
 use Rattle.build_inventory.specs.Positions.{posIn, spillLenOf}
 use Rattle.build_inventory.specs.Stream.{Filled}
 use Rattle.build_inventory.specs.declared.Built.the-variants as Built·v
 
--- a summary by its fields
-abbrev pub summaryBy : Parameters → ℕ → ℕ → Summary
-summaryBy p n k = record { plan = p; «inventory_len» = n; «spill_len» = k }
+-- ---- a plan's sizes, and its summary
+-- the count of the inventory's cells decides on 6
+pub fitted-by : (ws : List ℕ) (p : Parameters) (most : ℕ) {o : Outcome ℕ} {k : ℕ}
+    → o ≡ refuseIf (ltb most (inventoryLenOf p)) 6 (answer (inventoryLenOf p)) → k ≡ spillLenOf ws p
+    → andThen o (λ n. answer (record { inventory = n; spill = k })) ≡ fitted ws p most
+unfolding fitted
+fitted-by ws p most e ek = rw (e, ek) (sym (refuse-then (ltb most (inventoryLenOf p)) 6 (answer (inventoryLenOf p)) _))
 
--- what holds of a plan that is answered
-pub planned-of : (ws : List ℕ) (len : ℕ) (pol : Polarity) (choice : Choice) (p : Parameters) → planOf ws len pol choice ≡ answer p → PlanOf ws p
-planned-of ws len pol choice p e = plan-facts ws len pol choice p e .of
+-- the counts of a plan that is not turned down by 6
+pub record Fitting (ws : List ℕ) (p : Parameters) (most : ℕ) (s : Sizes) : Type 0 where
+  pub room : inventoryLenOf p ≤ most
+  pub inventory : s .inventory ≡ inventoryLenOf p
+  pub spill : s .spill ≡ spillLenOf ws p
 
--- ---- the count of the inventory's cells decides on 6, and stands in the summary
-pub fitted-count : (ws : List ℕ) (p : Parameters) (most : ℕ)
-    → andThen (refuseIf (ltb most (inventoryLenOf p)) 6 (answer (inventoryLenOf p))) (λ n. answer (summaryBy p n (spillLenOf ws p))) ≡ fitted ws p most
-unfolding fitted summaryOf
-fitted-count ws p most = go (ltb most (inventoryLenOf p))
-  where
-    go : (t : Bool) → andThen (refuseIf t 6 (answer (inventoryLenOf p))) (λ n. answer (summaryBy p n (spillLenOf ws p))) ≡ refuseIf t 6 (answer (summaryBy p (inventoryLenOf p) (spillLenOf ws p)))
-    go true = refl
-    go false = refl
+pub fitting : {ws : List ℕ} {p : Parameters} {most : ℕ} {s : Sizes} → fitted ws p most ≡ answer s → Fitting ws p most s
+unfolding fitted
+fitting {ws} {p} {most} {s} e =
+    let f = not-refused (ltb most (inventoryLenOf p)) 6 (answer (record { inventory = inventoryLenOf p; spill = spillLenOf ws p })) s e in
+    let is = sym (answer-is (f .1)) in
+    record {
+      room = ltb-false most (inventoryLenOf p) (f .0);
+      inventory = ap (λ (z : Sizes). z .inventory) is;
+      spill = ap (λ (z : Sizes). z .spill) is;
+    }
+
+-- the summary of a plan, by its counts
+pub summary-made : (ws : List ℕ) (p : Parameters) (n k : ℕ) → n ≡ inventoryLenOf p → k ≡ spillLenOf ws p
+    → _≡_ {A = Summary} (record { plan = p; «inventory_len» = n; «spill_len» = k }) (summaryOf (posIn ws p) p)
+unfolding summaryOf
+summary-made ws p n k en ek = rw (en, ek)
 
 -- ---- a build that is not turned down: its summary is that of the record and the choice, and its cells have room
 module _ (ws : List ℕ) (len : ℕ) (pol : Polarity) (choice : Choice) (cells spill : ℕ) (t : Summary) where
@@ -50,19 +63,18 @@ module _ (ws : List ℕ) (len : ℕ) (pol : Polarity) (choice : Choice) (cells s
 
 module _ (ws : List ℕ) (len : ℕ) (pol : Polarity) (choice : Choice) (cells spill : ℕ) (t : Summary) where
   pub admission : buildOf ws len pol choice cells spill ≡ answer t → Admission ws len pol choice cells spill t
-  unfolding buildOf measured fitted summaryOf
+  unfolding buildOf buildFrom summaryOf
   admission e =
-      let m = then-answer (measured ws len pol choice cells) _ t e in
-      let p = then-answer (planOf ws len pol choice) (λ p. fitted ws p cells) (m .0) (m .1) in
-      let f = not-refused (ltb cells (inventoryLenOf (p .0))) 6 (answer (summaryOf (posIn ws (p .0)) (p .0))) (m .0) (p .2) in
-      let g = not-refused (ltb spill (m .0 .«spill_len»)) 7 (answer (m .0)) t (m .2) in
-      let s : summaryOf (posIn ws (p .0)) (p .0) ≡ t = answer-is (f .1) ∙ answer-is (g .1) in
-      subst (λ (z : Summary). Admission ws len pol choice cells spill z) s record {
+      let p = then-answer (planOf ws len pol choice) (λ q. buildFrom ws q cells spill) t e in
+      let s = then-answer (fitted ws (p .0) cells) _ t (p .2) in
+      let h = fitting (s .1) in
+      let g = not-refused (ltb spill (s .0 .spill)) 7 (answer (summaryOf (posIn ws (p .0)) (p .0))) t (s .2) in
+      subst (λ (z : Summary). Admission ws len pol choice cells spill z) (answer-is (g .1)) record {
         planned = p .1;
         plans = plan-facts ws len pol choice (p .0) (p .1) .of;
         is = refl;
-        room = ltb-false cells (inventoryLenOf (p .0)) (f .0);
-        spill-room = ltb-false spill _ (ap (λ (z : Summary). ltb spill (z .«spill_len»)) (answer-is (f .1)) ∙ g .0);
+        room = h .room;
+        spill-room = omega (arith, h .spill, ltb-false spill (s .0 .spill) (g .0));
       }
 
 -- the counts in a summary of the record and the choice
@@ -76,15 +88,19 @@ module _ (ws : List ℕ) (t : Summary) (is : t ≡ summaryOf (posIn ws (t .plan)
   spill-counted = ap (λ (z : Summary). z .«spill_len») (sym is)
 
 -- a build of the same record and choice that is lent as many cells answers the same
-pub admitted-on : (ws : List ℕ) (len : ℕ) (pol : Polarity) (choice : Choice) (cells spill : ℕ) (t : Summary) → Admission ws len pol choice cells spill t
+pub admitted-on : (ws : List ℕ) (len : ℕ) (pol : Polarity) (choice : Choice) (cells spill : ℕ) (t : Summary)
+    → Admission ws len pol choice cells spill t
     → (c k : ℕ) → t .«inventory_len» ≤ c → t .«spill_len» ≤ k → buildOf ws len pol choice c k ≡ answer t
-unfolding buildOf measured fitted
+unfolding buildOf buildFrom fitted
 admitted-on ws len pol choice cells spill t m c k a b =
-    rw (m .planned, inventory-counted ws t (m .is), le-ltb c (t .«inventory_len») a, ← m .is, le-ltb k (t .«spill_len») b)
+    let n = inventory-counted ws t (m .is) in
+    let d = spill-counted ws t (m .is) in
+    rw (m .planned, n, le-ltb c (t .«inventory_len») a, d, le-ltb k (t .«spill_len») b, ← m .is)
 
 -- ---- what a build leaves
 module _ (ws inv₀ sp₀ : List ℕ) (o : Outcome Summary) where
-  pub built-as : (t : Summary) (inv sp : List ℕ) → answer t ≡ o → t ≡ summaryOf (posIn ws (t .plan)) (t .plan) → Filled (posIn ws (t .plan)) (t .plan) inv₀ inv sp₀ sp
+  pub built-as : (t : Summary) (inv sp : List ℕ) → answer t ≡ o → t ≡ summaryOf (posIn ws (t .plan)) (t .plan)
+      → Filled (posIn ws (t .plan)) (t .plan) inv₀ inv sp₀ sp
       → BuiltAs ws o inv₀ inv sp₀ sp (Built·v.Summary t)
   built-as t inv sp e is w =
       subst (λ (z : Outcome Summary). BuiltAs ws z inv₀ inv sp₀ sp (Built·v.Summary t)) e record {

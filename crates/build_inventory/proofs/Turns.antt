@@ -5,13 +5,13 @@ use native.Mathlib.Nat.{le-div-iff-mul-le, div-lt-iff-lt-mul, mul-le-mul-right}
 use native.Mathlib.Omega.{arith}
 use Rattle.spacing.specs.declared.Parameters.{Parameters}
 use Rattle.inventory.specs.Index.{entriesOf, stride, inventoryLenOf, startOf, entryOf, spillStart}
-use Rattle.inventory.specs.declared.Entry.{Entry}
+use Rattle.inventory.specs.declared.entry.Entry.{Entry}
 use Rattle.inventory.proofs.Index.{spillStart-none, spillStart-more, spillStart-mono}
 use Rattle.inventory.proofs.Lanes.{turn-more}
 use Rattle.inventory.proofs.Marks.{next-is}
 
 -- ---- n entries of so many cells and the closing cell, against a bound
-module _ (p : Parameters) (most n cells : ℕ) (some : 0 < most) (en : n ≡ entriesOf p) (ec : cells ≡ stride p) where
+module _ (p : Parameters) (most : ℕ) {n cells : ℕ} (some : 0 < most) (en : n ≡ entriesOf p) (ec : cells ≡ stride p) where
   len-is : n * cells + 1 ≡ inventoryLenOf p
   unfolding inventoryLenOf
   len-is = rw (en, ec)
@@ -28,8 +28,8 @@ pub record Reached (pos : ℕ → ℕ) (p : Parameters) (e spilled start : ℕ) 
   pub spills : spilled ≡ spillStart pos p e
   pub begins : start ≡ startOf pos p e
 
-pub reached-none : (pos : ℕ → ℕ) (p : Parameters) (start : ℕ) → start ≡ startOf pos p 0 → Reached pos p 0 0 start
-reached-none pos p start es = record { within = omega arith; spills = sym (spillStart-none pos p); begins = es }
+pub reached-none : {pos : ℕ → ℕ} {p : Parameters} {start : ℕ} → start ≡ startOf pos p 0 → Reached pos p 0 0 start
+reached-none {pos} {p} es = record { within = omega arith; spills = sym (spillStart-none pos p); begins = es }
 
 -- the closing cell has its place
 pub last-room : (p : Parameters) (e at : ℕ) → e ≤ entriesOf p → at ≡ e * stride p → at + 1 ≤ inventoryLenOf p
@@ -38,9 +38,12 @@ last-room p e at h ea = omega (arith, mul-le-mul-right {m = e} {n = entriesOf p}
 
 -- and so has an entry before it
 pub entry-room : (p : Parameters) (e at : ℕ) → e < entriesOf p → at ≡ e * stride p → stride p + at + 1 ≤ inventoryLenOf p
-entry-room p e at h ea = omega (arith, turn-more e (stride p), last-room p (e + 1) (at + stride p) (omega arith) (omega (arith, turn-more e (stride p))))
+entry-room p e at h ea =
+    let t = turn-more e (stride p) in
+    omega (arith, last-room p (e + 1) (at + stride p) (omega arith) (omega arith))
 
-module _ (pos : ℕ → ℕ) (p : Parameters) (e spilled start : ℕ) (v : Reached pos p e spilled start) (lt : e < entriesOf p) (x : Entry) (ex : x ≡ entryOf pos p e) where
+module _ {pos : ℕ → ℕ} {p : Parameters} {e spilled start : ℕ} (v : Reached pos p e spilled start) (lt : e < entriesOf p)
+    {x : Entry} (ex : x ≡ entryOf pos p e) where
   spills-more : spilled + x .spilled ≡ spillStart pos p (e + 1)
   spills-more = rw ex (omega (arith, v .spills, spillStart-more pos p e))
 

@@ -13,9 +13,9 @@ use Rattle.spacing.specs.Spacing.{N, L, M, S, planOf}
 use Rattle.spacing.specs.declared.Choice.{Choice}
 use Rattle.spacing.specs.declared.Parameters.{Parameters}
 use Rattle.inventory.specs.Index.{inventoryLenOf, inventoryOf, spillOf, summaryOf}
-use Rattle.inventory.specs.declared.Summary.{Summary}
+use Rattle.inventory.specs.declared.summary.Summary.{Summary}
 use Rattle.build_inventory.specs.Compare.{sameIndex}
-use Rattle.build_inventory.specs.Positions.{posIn}
+use Rattle.build_inventory.specs.Positions.{posIn, spillLenOf}
 use Rattle.build_inventory.specs.declared.Built.{Built}
 use Rattle.build_inventory.specs.declared.Built.the-variants as Built·v
 use Rattle.build_inventory.specs.declared.Checked.{Checked}
@@ -41,24 +41,20 @@ checked Checked·v.Yes = answer true
 checked Checked·v.No = answer false
 checked (Checked·v.Refused r) = refused (numberOf r)
 
--- ---- the summary: 1 to 5 as plan says, and 6 where the inventory has more cells than so many
-unfoldable pub fitted : List ℕ → Parameters → ℕ → Outcome Summary
-fitted ws p most = refuseIf (ltb most (inventoryLenOf p)) 6 (answer (summaryOf (posIn ws p) p))
+-- ---- the sizes of a plan's index: 6 where the inventory has more cells than so many
+unfoldable pub fitted : List ℕ → Parameters → ℕ → Outcome Sizes
+fitted ws p most = refuseIf (ltb most (inventoryLenOf p)) 6 (answer (record { inventory = inventoryLenOf p; spill = spillLenOf ws p }))
 
-unfoldable pub measured : List ℕ → ℕ → Polarity → Choice → ℕ → Outcome Summary
-measured ws len pol choice most = andThen (planOf ws len pol choice) (λ p. fitted ws p most)
-
--- ---- size: in it, 6 is an inventory count over 2^64 - 1
-abbrev pub sizesOf : Summary → Sizes
-sizesOf t = record { inventory = t .«inventory_len»; spill = t .«spill_len» }
-
+-- ---- size: 1 to 5 as plan says; in it, 6 is an inventory count over 2^64 - 1
 unfoldable pub sizeOf : List ℕ → ℕ → Polarity → Choice → Outcome Sizes
-sizeOf ws len pol choice = andThen (measured ws len pol choice (2 ^ 64 - 1)) (λ t. answer (sizesOf t))
+sizeOf ws len pol choice = andThen (planOf ws len pol choice) (λ p. fitted ws p (2 ^ 64 - 1))
 
--- ---- build, where so many cells are lent for the inventory and for the spill
+-- ---- build, where so many cells are lent for the inventory and for the spill: 6 and then 7 by the sizes of the plan's index
+unfoldable pub buildFrom : List ℕ → Parameters → ℕ → ℕ → Outcome Summary
+buildFrom ws p cells spill = andThen (fitted ws p cells) (λ s. refuseIf (ltb spill (s .spill)) 7 (answer (summaryOf (posIn ws p) p)))
+
 unfoldable pub buildOf : List ℕ → ℕ → Polarity → Choice → ℕ → ℕ → Outcome Summary
-buildOf ws len pol choice cells spill =
-    andThen (measured ws len pol choice cells) (λ t. refuseIf (ltb spill (t .«spill_len»)) 7 (answer t))
+buildOf ws len pol choice cells spill = andThen (planOf ws len pol choice) (λ p. buildFrom ws p cells spill)
 
 -- the index stands before what stood past it; on a refusal all is as it was
 abbrev pub inventoryAfter : List ℕ → List ℕ → Outcome Summary → List ℕ

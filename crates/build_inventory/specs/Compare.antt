@@ -7,7 +7,7 @@ use lib.Dec.{eqb}
 use lib.ListN.{take}
 use Rattle.spacing.specs.declared.Parameters.{Parameters}
 use Rattle.inventory.specs.Index.{stream, ownCells, entriesOf, inventoryLenOf, spillStart, inventoryOf, spillOf}
-use Rattle.inventory.specs.declared.Entry.{Entry}
+use Rattle.inventory.specs.declared.entry.Entry.{Entry}
 use Rattle.build_inventory.specs.Stream.{AtMark}
 use Rattle.build_inventory.specs.declared.entry.Cursor.{Cursor}
 use Rattle.build_inventory.specs.declared.index.Same.{Same}

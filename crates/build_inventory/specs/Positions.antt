@@ -4,16 +4,16 @@ use mathlib.Core.Option.{Option, Option·getD}
 use mathlib.Core.Path.{_≡_}
 use Prim.Native.Nat.{ℕ, _-_, _*_, _^_, _≤_, _<_, max}
 use lib.ListN.{length}
-use Rattle.rank_sel.specs.Seek.{seek, select}
-use Rattle.bit_record.specs.Record.{selected}
+use Rattle.rank_sel.specs.Seek.{seek}
+use Rattle.bit_record.specs.Record.{selected, bitOf}
 use Rattle.spacing.specs.Spacing.{N, L, PlanOf}
 use Rattle.spacing.specs.declared.Parameters.{Parameters}
 use Rattle.inventory.specs.Index.{entriesOf, inventoryLenOf, entryOf, spillStart}
-use Rattle.inventory.specs.declared.Entry.{Entry}
+use Rattle.inventory.specs.declared.entry.Entry.{Entry}
 
--- the bit of rank r
+-- the bit of rank r in the record that the plan is of
 abbrev pub posIn : List ℕ → Parameters → ℕ → ℕ
-posIn ws p = select (selected (p .polarity) ws (p .len)) (p .len)
+posIn ws p = bitOf ws (p .len) (p .polarity)
 
 -- past the last selected bit, the end of the last span
 abbrev pub orEnd : Parameters → Option ℕ → ℕ

@@ -5,7 +5,7 @@ use Prim.Native.Nat.{ℕ, _+_, _-_, _*_, _<_}
 use lib.ListN.{drop}
 use Rattle.spacing.specs.declared.Parameters.{Parameters}
 use Rattle.inventory.specs.Index.{mark, stream, ownCells, spillCells, entriesOf, inventoryLenOf, spillStart, inventoryOf, spillOf}
-use Rattle.inventory.specs.declared.Entry.{Entry}
+use Rattle.inventory.specs.declared.entry.Entry.{Entry}
 use Rattle.build_inventory.specs.declared.entry.Cursor.{Cursor}
 use Rattle.build_inventory.specs.declared.entry.Step.{Step}
 

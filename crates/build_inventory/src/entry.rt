@@ -7,16 +7,17 @@ ghost use Rattle.spacing.specs.Spacing.{L, M, N, PlanOf};
 ghost use Rattle.inventory.specs.Index.{bound, entryOf, lane, packed, startOf, stride};
 ghost use Rattle.build_inventory.specs.Positions.{EntryIn, orEnd, posIn};
 ghost use Rattle.build_inventory.specs.Stream.{AtMark, Stepped, Wrote, WroteEntry, WroteOwn};
-use bit_record::Place;
+use bit_record::RecordSeek;
 use bit_record::seek_far;
 use bit_record::seek_from;
 use inventory::Entry;
+use inventory::entry_ranks;
 use inventory::from_span;
 use inventory::log2_quantum;
 use inventory::shape_of;
 use inventory::spilled_by;
+use rank_sel::ceil_shift;
 use rank_sel::max;
-use rank_sel::min;
 use rank_sel::pow2;
 use spacing::Parameters;
 
@@ -33,12 +34,12 @@ pub struct Step {
 }
 
 // A place, or the end of the last span where there is none.
-pub fn or_end(place: Place, plan: Parameters) -> u64
+pub fn or_end(place: RecordSeek, plan: Parameters) -> u64
     ensures { λ r. ⌜ r ≡ orEnd plan (found place) ⌝ }
 {
     match place {
-        Place::At(p) => p,
-        Place::Nowhere => max(1, plan.len),
+        RecordSeek::At(p) => p,
+        RecordSeek::Nowhere => max(1, plan.len),
     }
 }
 
@@ -60,11 +61,11 @@ pub fn entry_at(words: &[u64], plan: Parameters, e: u64, start: u64) -> Entry
     let ones = pow2(plan.log2_ones_per_inventory);
     let first = e * ones;
     let next = next_start(words, plan, first, start);
-    let ranks = min(ones, plan.num - first);
+    let ranks = entry_ranks(plan, e);
     let span = next - start;
     let kind = from_span(span);
     let log2_quantum = log2_quantum(kind, span, plan.log2_ones_per_sub16);
-    let marks = (ranks + (pow2(log2_quantum) - 1)) >> log2_quantum;
+    let marks = ceil_shift(ranks, log2_quantum);
     let shape = shape_of(kind, start);
     let spilled = spilled_by(kind, marks, plan.log2_words_per_subinventory);
     Entry {

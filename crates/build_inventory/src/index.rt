@@ -7,7 +7,7 @@ ghost use lib.Dec.{ltb};
 ghost use lib.ListN.{length, take};
 ghost use Rattle.rank_sel.specs.Outcome.{answer, answered, refuseIf};
 ghost use Rattle.spacing.specs.Spacing.{L, M, N, PlanOf, maxLog2Words};
-ghost use Rattle.inventory.specs.Index.{entriesOf, inventoryLenOf, ownCells, spillCells, startOf, stride};
+ghost use Rattle.inventory.specs.Index.{inventoryLenOf, ownCells, spillCells, startOf, stride};
 ghost use Rattle.build_inventory.specs.Compare.{Compared, ComparedOwn, sameIndex, sameList};
 ghost use Rattle.build_inventory.specs.Positions.{EntryIn, Lent, posIn, spillLenOf};
 ghost use Rattle.build_inventory.specs.Stream.{AtMark, Filled};
@@ -20,27 +20,12 @@ use crate::entry::write_cell;
 use crate::entry::write_entry;
 use bit_record::seek_far;
 use inventory::Entry;
+use inventory::entry_count;
+use inventory::entry_len;
 use rank_sel::Answer;
 use rank_sel::Refusal;
 use rank_sel::pow2;
 use spacing::Parameters;
-
-// How many entries the index has.
-fn entry_count(plan: Parameters) -> u64
-    requires { ⌜ (N plan < 2 ^ 62) × (L plan ≤ 63) ⌝ }
-    ensures { λ r. ⌜ r ≡ entriesOf plan ⌝ }
-{
-    let ones = pow2(plan.log2_ones_per_inventory);
-    (plan.num + (ones - 1)) >> plan.log2_ones_per_inventory
-}
-
-// How many cells of the inventory an entry has.
-fn entry_len(plan: Parameters) -> u64
-    requires { ⌜ M plan ≤ maxLog2Words ⌝ }
-    ensures { λ r. ⌜ r ≡ stride plan ⌝ }
-{
-    pow2(plan.log2_words_per_subinventory) + 1
-}
 
 // How many cells the inventory has, where these are at most so many: the count may be over 2^64 - 1.
 pub fn inventory_count(plan: Parameters, most: u64) -> Answer
@@ -51,7 +36,7 @@ pub fn inventory_count(plan: Parameters, most: u64) -> Answer
         return Answer::Refused(Refusal::InventoryTooShort);
     }
     let count = entry_count(plan);
-    let cells = entry_len(plan);
+    let cells = entry_len(plan.log2_words_per_subinventory);
     if (most - 1) / cells < count {
         return Answer::Refused(Refusal::InventoryTooShort);
     }
@@ -91,7 +76,7 @@ pub fn fill(words: &[u64], plan: Parameters, inventory: &mut [u64], spill: &mut 
     ensures { λ r. ⌜ Filled (posIn (now (words .entry)) plan) plan (now (inventory .entry)) (now (inventory .exit)) (now (spill .entry)) (now (spill .exit)) ⌝ }
 {
     let entries = entry_count(plan);
-    let cells = entry_len(plan) as usize;
+    let cells = entry_len(plan.log2_words_per_subinventory) as usize;
     let mut e: u64 = 0;
     let mut at: usize = 0;
     let mut spilled: usize = 0;
@@ -211,7 +196,7 @@ pub fn same_index(words: &[u64], plan: Parameters, inventory: &[u64], spill: &[u
     ensures { λ r. ⌜ r ≡ sameIndex (posIn (now (words .entry)) plan) plan (now (inventory .entry)) (now (spill .entry)) ⌝ }
 {
     let count = entry_count(plan);
-    let cells = entry_len(plan) as usize;
+    let cells = entry_len(plan.log2_words_per_subinventory) as usize;
     let mut e: u64 = 0;
     let mut at: usize = 0;
     let mut spilled: usize = 0;

@@ -4,7 +4,7 @@ ghost use mathlib.Core.Path.{_≡_};
 ghost use lib.ListN.{length};
 ghost use Rattle.rank_sel.specs.Outcome.{answer};
 ghost use Rattle.spacing.specs.Spacing.{PlanOf};
-ghost use Rattle.build_inventory.specs.Build.{BuiltAs, buildOf, built, checkOf, checked, fitted, measured, samePlan, samePolarity, sameSummary, sizeOf, sized};
+ghost use Rattle.build_inventory.specs.Build.{BuiltAs, buildFrom, buildOf, built, checkOf, checked, fitted, samePlan, samePolarity, sameSummary, sizeOf, sized};
 ghost use Rattle.build_inventory.specs.Compare.{sameIndex};
 ghost use Rattle.build_inventory.specs.Positions.{Lent, posIn};
 
@@ -41,31 +41,14 @@ pub enum Checked {
     Refused(Refusal),
 }
 
-// The summary of a plan, where the inventory has at most so many cells.
-fn fit(words: &[u64], plan: Parameters, most: u64) -> Built
+// The two cell counts of a plan's index, where the inventory has at most so many cells.
+fn fit(words: &[u64], plan: Parameters, most: u64) -> Sized
     requires { ⌜ PlanOf (now words) plan ⌝ }
-    ensures { λ r. ⌜ built r ≡ fitted (now (words .entry)) plan most ⌝ }
+    ensures { λ r. ⌜ sized r ≡ fitted (now (words .entry)) plan most ⌝ }
 {
     match inventory_count(plan, most) {
-        Answer::Value(inventory_len) => {
-            let spill_len = spill_count(words, plan);
-            Built::Summary(Summary {
-                plan,
-                inventory_len,
-                spill_len,
-            })
-        }
-        Answer::Refused(refusal) => Built::Refused(refusal),
-    }
-}
-
-// The same of a record and a choice.
-fn measure(words: &[u64], len: u64, polarity: Polarity, choice: Choice, most: u64) -> Built
-    ensures { λ r. ⌜ built r ≡ measured (now (words .entry)) len polarity choice most ⌝ }
-{
-    match plan(words, len, polarity, choice) {
-        Planned::Plan(plan) => fit(words, plan, most),
-        Planned::Refused(refusal) => Built::Refused(refusal),
+        Answer::Value(inventory_len) => Sized::Cells(inventory_len, spill_count(words, plan)),
+        Answer::Refused(refusal) => Sized::Refused(refusal),
     }
 }
 
@@ -73,9 +56,29 @@ fn measure(words: &[u64], len: u64, polarity: Polarity, choice: Choice, most: u6
 pub fn size(words: &[u64], len: u64, polarity: Polarity, choice: Choice) -> Sized
     ensures { λ r. ⌜ sized r ≡ sizeOf (now (words .entry)) len polarity choice ⌝ }
 {
-    match measure(words, len, polarity, choice, u64::MAX) {
-        Built::Summary(summary) => Sized::Cells(summary.inventory_len, summary.spill_len),
-        Built::Refused(refusal) => Sized::Refused(refusal),
+    match plan(words, len, polarity, choice) {
+        Planned::Plan(plan) => fit(words, plan, u64::MAX),
+        Planned::Refused(refusal) => Sized::Refused(refusal),
+    }
+}
+
+// The summary of a plan's index, where so many cells are lent for it.
+fn admit_plan(words: &[u64], plan: Parameters, cells: u64, spill_cells: u64) -> Built
+    requires { ⌜ PlanOf (now words) plan ⌝ }
+    ensures { λ r. ⌜ built r ≡ buildFrom (now (words .entry)) plan cells «spill_cells» ⌝ }
+{
+    match fit(words, plan, cells) {
+        Sized::Cells(inventory_len, spill_len) => {
+            if spill_cells < spill_len {
+                return Built::Refused(Refusal::SpillTooShort);
+            }
+            Built::Summary(Summary {
+                plan,
+                inventory_len,
+                spill_len,
+            })
+        }
+        Sized::Refused(refusal) => Built::Refused(refusal),
     }
 }
 
@@ -85,19 +88,14 @@ fn admit(
     len: u64,
     polarity: Polarity,
     choice: Choice,
-    inventory_len: u64,
-    spill_len: u64,
+    cells: u64,
+    spill_cells: u64,
 ) -> Built
-    ensures { λ r. ⌜ built r ≡ buildOf (now (words .entry)) len polarity choice «inventory_len» «spill_len» ⌝ }
+    ensures { λ r. ⌜ built r ≡ buildOf (now (words .entry)) len polarity choice cells «spill_cells» ⌝ }
 {
-    match measure(words, len, polarity, choice, inventory_len) {
-        Built::Summary(summary) => {
-            if spill_len < summary.spill_len {
-                return Built::Refused(Refusal::SpillTooShort);
-            }
-            Built::Summary(summary)
-        }
-        Built::Refused(refusal) => Built::Refused(refusal),
+    match plan(words, len, polarity, choice) {
+        Planned::Plan(plan) => admit_plan(words, plan, cells, spill_cells),
+        Planned::Refused(refusal) => Built::Refused(refusal),
     }
 }
 
@@ -166,7 +164,7 @@ fn same_summary(a: Summary, b: Summary) -> bool
 }
 
 // Whether this summary and these cells are those that the build with the summary `right` writes.
-fn verdict(
+fn compare(
     words: &[u64],
     right: Summary,
     summary: Summary,
@@ -206,7 +204,7 @@ pub fn check(
         inventory.len() as u64,
         spill.len() as u64,
     ) {
-        Built::Summary(right) => verdict(words, right, summary, inventory, spill),
+        Built::Summary(right) => compare(words, right, summary, inventory, spill),
         Built::Refused(refusal) => Checked::Refused(refusal),
     }
 }

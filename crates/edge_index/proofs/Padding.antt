@@ -5,21 +5,23 @@ use mathlib.Core.Path.{_≡_, refl, sym, ap, _∙_, subst}
 use Prim.Native.Nat.{ℕ, _-_, _^_}
 use lib.Dec.{ltb}
 use lib.ListN.{length, drop}
-use Rattle.rank_sel.specs.Outcome.{Outcome, answer, refused, refuseIf, andThen}
+use Rattle.rank_sel.specs.Outcome.{Outcome, answer, refused, refuseIf, Conditions, refuseBy, andThen}
 use Rattle.rank_sel.specs.Seek.{select}
 use Rattle.bit_record.specs.Record.{SameRecord}
 use Rattle.bit_record.specs.declared.Polarity.{Polarity}
-use Rattle.bit_record.proofs.Same.{selected-same, words-same, num-same, count-same}
-use Rattle.spacing.specs.Spacing.{planOf}
+use Rattle.bit_record.proofs.Same.{selected-same, words-same, count-same}
+use Rattle.spacing.specs.Spacing.{N, planOf}
 use Rattle.spacing.specs.declared.Choice.{Choice}
 use Rattle.spacing.specs.declared.Parameters.{Parameters}
 use Rattle.spacing.proofs.Facts.{plan-facts}
-use Rattle.inventory.specs.Index.{inventoryLenOf, inventoryOf, spillOf, summaryOf}
-use Rattle.inventory.specs.Read.{positionOf, tested, selectOf, hintOf, dwellOf, subinventoryOf}
-use Rattle.inventory.specs.declared.Summary.{Summary}
-use Rattle.build_inventory.specs.Build.{fitted, measured, sizeOf, buildOf, inventoryAfter, spillAfter, sameSummary, checkOf}
+use Rattle.inventory.specs.Index.{entriesOf, inventoryLenOf, spillStart, inventoryOf, spillOf, summaryOf}
+use Rattle.inventory.specs.declared.summary.Summary.{Summary}
+use Rattle.build_inventory.specs.Build.{Sizes, fitted, sizeOf, buildFrom, buildOf, inventoryAfter, spillAfter, sameSummary, checkOf}
 use Rattle.build_inventory.specs.Compare.{sameIndex}
 use Rattle.build_inventory.specs.Positions.{posIn}
+use Rattle.read_inventory.specs.Jump.{selectOf, hintOf, dwellAt, dwellOf, storeOf, subinventoryOf}
+use Rattle.read_inventory.specs.Read.{hintAt, positionOf}
+use Rattle.read_inventory.specs.Tests.{ofIndex, ofRank, ofRanks}
 use Rattle.build_inventory.proofs.Outcomes.{admission}
 use Rattle.edge_index.specs.Padding.{Alike}
 use Rattle.edge_index.specs.Promises.{inventoryHolds, spillHolds}
@@ -47,11 +49,15 @@ module _ (len : ℕ) (ws vs : List ℕ) (s : SameRecord len ws vs) where
   -- ---- the entries that take a choice
   plan-same : (pol : Polarity) (choice : Choice) → planOf ws len pol choice ≡ planOf vs len pol choice
   unfolding planOf
-  plan-same pol choice = simp (words-same len ws vs s, num-same len ws vs s)
+  plan-same pol choice = rw (count-same len ws vs s pol)
 
   -- the bit of each rank
   pos-same : (p : Parameters) → p .len ≡ len → posIn ws p ≡ posIn vs p
   pos-same p e = ap (λ (f : ℕ → Bool). select f (p .len)) (selected-same (p .len) ws vs (subst (λ (n : ℕ). SameRecord n ws vs) (sym e) s) (p .polarity))
+
+  -- the sizes of an index, by the bit of each rank
+  abbrev fit : (ℕ → ℕ) → Parameters → ℕ → Outcome Sizes
+  fit f p most = refuseIf (ltb most (inventoryLenOf p)) 6 (answer (record { inventory = inventoryLenOf p; spill = spillStart f p (entriesOf p) }))
 
   -- what follows a plan depends on the words by the bit of each rank
   then-same : {A : Type 0} (pol : Polarity) (choice : Choice) (go : (ℕ → ℕ) → Parameters → Outcome A)
@@ -63,13 +69,10 @@ module _ (len : ℕ) (ws vs : List ℕ) (s : SameRecord len ws vs) where
       at (answer p) e d = rw (sym d ∙ e, e) (ap (λ (f : ℕ → ℕ). go f p) (pos-same p (plan-facts ws len pol choice p e .length)))
       at (refused n) e d = rw (sym d ∙ e, e)
 
-  measured-same : (pol : Polarity) (choice : Choice) (most : ℕ) → measured ws len pol choice most ≡ measured vs len pol choice most
-  unfolding measured fitted
-  measured-same pol choice most = then-same pol choice (λ f p. refuseIf (ltb most (inventoryLenOf p)) 6 (answer (summaryOf f p)))
-
   build-same : (pol : Polarity) (choice : Choice) (cells spill : ℕ) → buildOf ws len pol choice cells spill ≡ buildOf vs len pol choice cells spill
-  unfolding buildOf
-  build-same pol choice cells spill = rw (measured-same pol choice cells)
+  unfolding buildOf buildFrom fitted
+  build-same pol choice cells spill = then-same pol choice
+      (λ f p. andThen (fit f p cells) (λ s. refuseIf (ltb spill (s .spill)) 7 (answer (summaryOf f p))))
 
   -- what follows a build likewise
   after-same : {X : Type 0} (pol : Polarity) (choice : Choice) (cells spill : ℕ) (after : (ℕ → ℕ) → Summary → X) (else : ℕ → X)
@@ -109,9 +112,8 @@ module _ (len : ℕ) (ws vs : List ℕ) (s : SameRecord len ws vs) where
     here : SameRecord (t .plan .len) ws vs
     here = subst (λ (n : ℕ). SameRecord n ws vs) (sym e) s
 
-    tests-same : {A : Type 0} (rest : Outcome A) → tested ws t inv sp rest ≡ tested vs t inv sp rest
-    unfolding tested
-    tests-same rest = rw (words-same (t .plan .len) ws vs here)
+    tests-same : {A : Type 0} (cs : Conditions) (rest : Outcome A) → refuseBy (ofIndex ws t inv sp ++ cs) rest ≡ refuseBy (ofIndex vs t inv sp ++ cs) rest
+    tests-same cs rest = rw (words-same (t .plan .len) ws vs here)
 
     position-same : (r : ℕ) → positionOf ws t inv sp r ≡ positionOf vs t inv sp r
     unfolding positionOf
@@ -119,26 +121,26 @@ module _ (len : ℕ) (ws vs : List ℕ) (s : SameRecord len ws vs) where
 
     hint-same : (r : ℕ) → hintOf ws t inv sp r ≡ hintOf vs t inv sp r
     unfolding hintOf
-    hint-same r = tests-same _
+    hint-same r = tests-same (ofRank (N (t .plan)) r) (hintAt t inv sp r)
 
     select-same : (r : ℕ) → selectOf ws t inv sp r ≡ selectOf vs t inv sp r
     unfolding selectOf
-    select-same r = tests-same _ ∙ rw (position-same r)
+    select-same r = tests-same (ofRank (N (t .plan)) r) (positionOf ws t inv sp r) ∙ rw (position-same r)
 
     store-same : (r : ℕ) → subinventoryOf ws t inv sp r ≡ subinventoryOf vs t inv sp r
-    unfolding subinventoryOf
+    unfolding subinventoryOf storeOf
     store-same r = rw (hint-same r)
 
     dwell-same : (a b : ℕ) → dwellOf ws t inv sp a b ≡ dwellOf vs t inv sp a b
-    unfolding dwellOf
-    dwell-same a b = tests-same _ ∙ rw (position-same a, position-same b)
+    unfolding dwellOf dwellAt
+    dwell-same a b = tests-same (ofRanks (N (t .plan)) a b) (dwellAt ws t inv sp a b) ∙ rw (position-same a, position-same b)
 
   pub padding-alike : Alike len ws vs
-  unfolding sizeOf
+  unfolding sizeOf fitted
   padding-alike = record {
     count = count-same len ws vs s;
     plan = plan-same;
-    size = λ pol choice. rw (measured-same pol choice (2 ^ 64 - 1));
+    size = λ pol choice. then-same pol choice (λ f p. fit f p (2 ^ 64 - 1));
     build = λ pol choice inv sp. build-same pol choice (length inv) (length sp);
     buildInventory = inventory-same;
     buildSpill = spill-same;

@@ -3,33 +3,31 @@
 use mathlib.Core.Bool.{true, and-eq-true-iff}
 use mathlib.Core.List.{List, _++_}
 use mathlib.Core.Logic.{_↔_}
-use mathlib.Core.Path.{_≡_, sym, ap, ap₂, _∙_, subst}
+use mathlib.Core.Path.{_≡_, sym, ap, _∙_, subst}
 use Prim.Native.Nat.{ℕ, _≤_, _<_}
 use native.Mathlib.Omega.{arith}
 use lib.ListN.{length, take, drop, length-append, take-append-drop}
 use lib.Seq.{ext-getD, getD-take, length-take-le, take-at}
-use Rattle.rank_sel.specs.Outcome.{Outcome, answer, refused, andThen}
-use Rattle.rank_sel.specs.Seek.{select}
-use Rattle.rank_sel.proofs.Outcome.{answer-is, then-answer}
-use Rattle.bit_record.specs.Record.{selected, SameRecord}
+use Rattle.rank_sel.specs.Outcome.{answer, refused}
+use Rattle.rank_sel.proofs.Outcome.{answer-is, then-answer, then-refused}
+use Rattle.bit_record.specs.Record.{SameRecord, bitOf}
 use Rattle.bit_record.specs.declared.Polarity.{Polarity}
 use Rattle.spacing.specs.declared.Choice.{Choice}
 use Rattle.spacing.specs.declared.Parameters.{Parameters}
-use Rattle.spacing.proofs.Facts.{PlanFacts, plan-facts}
 use Rattle.inventory.specs.Index.{entriesOf, inventoryLenOf, spillStart, inventoryOf, spillOf, summaryOf}
-use Rattle.inventory.specs.declared.Summary.{Summary}
+use Rattle.inventory.specs.declared.summary.Summary.{Summary}
 use Rattle.inventory.proofs.Placed.{Placed, placed, length-inventory, length-spill}
 use Rattle.build_inventory.specs.Build.{checkOf, sameSummary}
 use Rattle.build_inventory.specs.Compare.{sameIndex, sameList}
 use Rattle.build_inventory.specs.Positions.{posIn}
-use Rattle.build_inventory.proofs.Compare.{same-is, same-yes}
+use Rattle.build_inventory.proofs.Comparing.{same-is, same-yes}
 use Rattle.build_inventory.proofs.Outcomes.{Admission, admission, admitted-on, inventory-counted, spill-counted}
 use Rattle.build_inventory.proofs.Summaries.{summary-is, summary-same}
 use Rattle.edge_index.specs.Promises.{SameCells, AsThen, Stands, buildAnswers, inventoryHolds, spillHolds, Promises}
-use Rattle.edge_index.specs.Sound.{bitOf, Sound}
+use Rattle.edge_index.specs.Sound.{Sound}
 use Rattle.edge_index.proofs.Padding.{padding-alike}
 use Rattle.edge_index.proofs.Right.{right}
-use Rattle.edge_index.proofs.Sound.{placed-sound}
+use Rattle.edge_index.proofs.Sound.{pos-same, placed-sound}
 
 -- a list that begins so is that beginning and its own rest
 begins : (n : ℕ) (l front : List ℕ) → take n l ≡ front → front ++ drop n l ≡ l
@@ -44,10 +42,6 @@ cells-take n a b s =
     (λ i h. let l : i < n = omega arith in getD-take n b i 0 l ∙ sym (s .cells i l) ∙ sym (getD-take n a i 0 l))
 
 module _ (ws : List ℕ) (len : ℕ) (pol : Polarity) (choice : Choice) where
-  -- the plan's polarity and len are the record's
-  pos-same : (p : Parameters) → PlanFacts ws len pol p → posIn ws p ≡ bitOf ws len pol
-  pos-same p c = ap₂ (λ (o : Polarity) (l : ℕ). select (selected o ws l) l) (c .polarity) (c .length)
-
   -- the index of a summary
   abbrev inventory : Summary → List ℕ
   inventory t = inventoryOf (posIn ws (t .plan)) (t .plan)
@@ -74,7 +68,7 @@ module _ (ws : List ℕ) (len : ℕ) (pol : Polarity) (choice : Choice) where
 
     held-sound : (a b : List ℕ) → Sound ws len pol choice t (inventory t ++ a) (spilled t ++ b)
     held-sound a b =
-        let e = pos-same p (plan-facts ws len pol choice p (m .planned)) in
+        let e = pos-same ws len pol choice p (m .planned) in
         let w : Placed (bitOf ws len pol) p (inventory t ++ a) (spilled t ++ b) = subst (λ (f : ℕ → ℕ). Placed f p (inventory t ++ a) (spilled t ++ b)) e (placed (posIn ws p) p a b) in
         let s : spillStart (bitOf ws len pol) p (entriesOf p) ≡ length (spilled t) = ap (λ (f : ℕ → ℕ). spillStart f p (entriesOf p)) (sym e) ∙ sym (length-spill (posIn ws p) p) in
         subst (λ (z : Summary). Sound ws len pol choice z (inventory t ++ a) (spilled t ++ b)) (sym (m .is ∙ ap (λ (f : ℕ → ℕ). summaryOf f p) e))
@@ -135,10 +129,6 @@ module _ (ws : List ℕ) (len : ℕ) (pol : Polarity) (choice : Choice) where
       let i = begins (t .«inventory_len») inv (inventory t) (y .inventory-is) in
       let s = begins (t .«spill_len») sp (spilled t) (y .spill-is) in
       rw (i, s) at (held-sound t (length inv) (length sp) (admits t inv sp (y .builds)) (drop (t .«inventory_len») inv) (drop (t .«spill_len») sp))
-
-  then-refused : {A B : Type 0} (o : Outcome A) (go : A → B) (n : ℕ) → (andThen o (λ a. answer (go a)) ≡ refused n) ↔ (o ≡ refused n)
-  then-refused (answer a) go n = ((λ e. let z : _≡_ {A = ℕ} 0 1 = cc in absurd (omega arith)), (λ e. let z : _≡_ {A = ℕ} 0 1 = cc in absurd (omega arith)))
-  then-refused (refused m) go n = ((λ e. let d : m ≡ n = cc in ap refused d), (λ e. let d : m ≡ n = cc in ap refused d))
 
   check-refusal : (t : Summary) (inv sp : List ℕ) (n : ℕ) → (checkOf ws len pol choice t inv sp ≡ refused n) ↔ (buildAnswers ws len pol choice inv sp ≡ refused n)
   unfolding checkOf

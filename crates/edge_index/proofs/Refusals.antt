@@ -1,29 +1,31 @@
--- Refusals in their order.
-use mathlib.Core.Bool.{Bool, true, false}
+-- Refusals in their order: a list of tests is passed in its order, and what comes after the tests says 10 alone.
+use mathlib.Core.Bool.{Bool, true, false, cond}
 use mathlib.Core.List.{List, [], _∷_, _++_}
 use mathlib.Core.Option.{Option, none, some}
 use mathlib.Core.Path.{_≡_, refl, sym, ap}
-use Prim.Native.Nat.{ℕ, _+_, _-_}
+use Prim.Native.Nat.{ℕ, _+_, _-_, _^_}
 use native.Mathlib.Omega.{arith}
 use lib.Dec.{leb, ltb}
 use lib.ListN.{length, getD}
-use Rattle.rank_sel.specs.Outcome.{Outcome, answer, refused, refuseIf, orRefuse, andThen}
+use Rattle.rank_sel.specs.Outcome.{Outcome, answer, refused, refuseIf, orRefuse, Conditions, refuseBy, andThen}
 use Rattle.rank_sel.specs.Seek.{seek}
 use Rattle.select_in_word.proofs.Bit.{ones-rank}
 use Rattle.select_in_word.proofs.Select.{word-refused, word-missing}
-use Rattle.bit_record.specs.Record.{selected, countOf}
+use Rattle.bit_record.specs.Record.{selected, numSelected, countOf}
 use Rattle.bit_record.specs.declared.Polarity.{Polarity}
-use Rattle.spacing.specs.Spacing.{chosenPlan, planOf}
+use Rattle.spacing.specs.Spacing.{N, chosenPlan, planOf}
 use Rattle.spacing.specs.declared.Choice.{Choice}
-use Rattle.inventory.specs.Index.{inventoryLenOf}
+use Rattle.spacing.specs.declared.Parameters.{Parameters}
+use Rattle.inventory.specs.Index.{inventoryLenOf, summaryOf}
 use Rattle.inventory.specs.Lanes.{laneOf}
-use Rattle.inventory.specs.Read.{kindAt, spanAt, shapeAt, Place, start, own, over, placeAt, numberAt, spanTooSmall, markAt, Hint, decode, finish, positionOf, tested, selectOf, hintOf, dwellOf, subinventoryOf, cellsOf, entryOfRank, markNumber, residual, rankTooLarge}
-use Rattle.inventory.specs.declared.SpanType.{SpanType}
-use Rattle.inventory.specs.declared.SpanType.the-variants.{U16, U32, U64}
-use Rattle.inventory.specs.declared.Summary.{Summary}
-use Rattle.inventory.proofs.PartSize.{store-some, store-in, store-length}
-use Rattle.build_inventory.specs.Build.{fitted, measured, sizeOf, buildOf, checkOf}
-use Rattle.edge_index.specs.Refusals.{Conditions, InOrder, ofRecord, ofChoice, ofIndex, planIn, summaryIn, toSix, toSeven, Only10, MakersRefuse, ReadersRefuse, InWordRefuses}
+use Rattle.inventory.specs.declared.summary.Summary.{Summary}
+use Rattle.build_inventory.specs.Build.{Sizes, fitted, sizeOf, buildFrom, buildOf, checkOf}
+use Rattle.build_inventory.specs.Positions.{spillLenOf}
+use Rattle.read_inventory.specs.Jump.{selectOf, hintOf, dwellAt, dwellOf, storeOf, subinventoryOf, cellsOf}
+use Rattle.read_inventory.specs.Read.{kindAt, spanAt, shapeAt, Place, start, own, over, placeAt, numberAt, spanTooSmall, markAt, entryOfRank, markNumber, markOfRank, Hint, hintAt, positionOf}
+use Rattle.read_inventory.specs.Tests.{rankTooLarge, ranksFall}
+use Rattle.read_inventory.proofs.PartSize.{store-some, store-in, store-length}
+use Rattle.edge_index.specs.Refusals.{InOrder, recordOrder, choiceOrder, indexOrder, planIn, summaryIn, toSeven, Only10, MakersRefuse, ReadersRefuse, InWordRefuses}
 
 -- ---- chains of tests
 some-none : {B : Type 0} (n : ℕ) → _≡_ {A = Option ℕ} (some n) none → B
@@ -35,6 +37,11 @@ in-rest o = record { first = λ n e. some-none n (sym e); else = λ e. refl }
 pub in-refuse : {A : Type 0} (b : Bool) (n : ℕ) (o rest : Outcome A) (cs : Conditions) → InOrder o cs rest → InOrder (refuseIf b n o) ((b, n) ∷ cs) rest
 in-refuse true n o rest cs h = record { first = λ m e. let d : n ≡ m = cc in ap refused d; else = λ e. some-none n e }
 in-refuse false n o rest cs h = record { first = h .first; else = h .else }
+
+-- tests in their order
+in-tests : {A : Type 0} (cs : Conditions) (rest : Outcome A) → InOrder (refuseBy cs rest) cs rest
+in-tests [] rest = in-rest rest
+in-tests (c ∷ cs) rest = in-refuse (c .0) (c .1) (refuseBy cs rest) rest cs (in-tests cs rest)
 
 -- an answer goes on with more tests
 pub in-then : {A B : Type 0} (o : Outcome A) (cs ds : Conditions) (a : A) (go : A → Outcome B) (rest : Outcome B)
@@ -51,28 +58,39 @@ in-then o (c ∷ cs) ds a go rest h k = step (c .0) refl (λ f. in-then o cs ds 
 
 -- ---- the entries that take a choice
 module _ (ws : List ℕ) (len : ℕ) (pol : Polarity) (choice : Choice) where
-  in-plan : InOrder (planOf ws len pol choice) (ofRecord ws len ++ ofChoice ws len pol choice) (answer (planIn ws len pol choice))
-  unfolding planOf chosenPlan
-  in-plan = in-refuse _ 1 _ _ _ (in-refuse _ 2 _ _ _ (in-refuse _ 3 _ _ _ (in-refuse _ 4 _ _ _ (in-refuse _ 5 _ _ _ (in-rest _)))))
+  in-plan : InOrder (planOf ws len pol choice) (recordOrder ws len ++ choiceOrder ws len pol choice) (answer (planIn ws len pol choice))
+  unfolding planOf countOf chosenPlan
+  in-plan = in-then _ _ _ (numSelected pol ws len) _ _ (in-tests (recordOrder ws len) _) (in-tests (choiceOrder ws len pol choice) _)
 
-  in-measure : (most : ℕ) → InOrder (measured ws len pol choice most) (toSix ws len pol choice most) (answer (summaryIn ws len pol choice))
-  unfolding measured fitted
-  in-measure most = in-then _ _ _ (planIn ws len pol choice) _ _ in-plan (in-refuse (ltb most (inventoryLenOf (planIn ws len pol choice))) 6 _ _ _ (in-rest _))
+  abbrev p : Parameters
+  p = planIn ws len pol choice
+
+  abbrev sizes : Sizes
+  sizes = record { inventory = inventoryLenOf p; spill = spillLenOf ws p }
+
+  in-fit : (most : ℕ) → InOrder (fitted ws p most) ((ltb most (inventoryLenOf p), 6) ∷ []) (answer sizes)
+  unfolding fitted
+  in-fit most = in-tests ((ltb most (inventoryLenOf p), 6) ∷ []) _
+
+  in-from : (cells spill : ℕ) → InOrder (buildFrom ws p cells spill) ((ltb cells (inventoryLenOf p), 6) ∷ (ltb spill (spillLenOf ws p), 7) ∷ [])
+      (answer (summaryIn ws len pol choice))
+  unfolding buildFrom
+  in-from cells spill = in-then _ _ _ sizes _ _ (in-fit cells) (in-tests ((ltb spill (spillLenOf ws p), 7) ∷ []) _)
 
   in-build : (cells spill : ℕ) → InOrder (buildOf ws len pol choice cells spill) (toSeven ws len pol choice cells spill) (answer (summaryIn ws len pol choice))
-  unfolding buildOf
-  in-build cells spill = in-then _ _ _ (summaryIn ws len pol choice) _ _ (in-measure cells) (in-refuse (ltb spill (summaryIn ws len pol choice .«spill_len»)) 7 _ _ _ (in-rest _))
+  unfolding buildOf summaryOf
+  in-build cells spill = in-then _ (recordOrder ws len ++ choiceOrder ws len pol choice) _ p _ _ in-plan (in-from cells spill)
 
   -- an answer that goes on to no more tests
   in-last : {A B : Type 0} (o : Outcome A) (cs : Conditions) (a : A) (go : A → B) → InOrder o cs (answer a) → InOrder (andThen o (λ x. answer (go x))) cs (answer (go a))
   in-last o cs a go h = record { first = λ n e. rw (h .first n e); else = λ e. rw (h .else e) }
 
   pub makers-refuse : MakersRefuse ws len pol choice
-  unfolding countOf sizeOf checkOf
+  unfolding countOf sizeOf checkOf summaryOf
   makers-refuse = record {
-    count = in-refuse _ 1 _ _ _ (in-refuse _ 2 _ _ _ (in-rest _));
+    count = in-tests (recordOrder ws len) _;
     plan = in-plan;
-    size = in-last _ _ (summaryIn ws len pol choice) _ (in-measure _);
+    size = in-then _ _ _ p _ _ in-plan (in-fit (2 ^ 64 - 1));
     build = in-build;
     check = λ t inv sp. in-last _ _ (summaryIn ws len pol choice) _ (in-build (length inv) (length sp));
   }
@@ -106,41 +124,45 @@ ten-mark t inv sp e i =
     (ten-then (numberAt t inv sp e (placeAt t inv e i)) _ (ten-number t inv sp e (placeAt t inv e i))
     (λ n. ten-refuse (leb (t .plan .len) (shapeAt t inv e .base + n)) (answer (shapeAt t inv e .base + n)) (ten-answer _)))
 
-ten-decode : (t : Summary) (inv sp : List ℕ) (r : ℕ) → Only10 (decode t inv sp r)
-unfolding decode
-ten-decode t inv sp r = ten-then (markAt t inv sp (entryOfRank t r) (markNumber t inv r)) _ (ten-mark t inv sp (entryOfRank t r) (markNumber t inv r)) (λ p. ten-answer _)
+ten-rank : (t : Summary) (inv sp : List ℕ) (r : ℕ) → Only10 (markOfRank t inv sp r)
+unfolding markOfRank
+ten-rank t inv sp r = ten-then (markAt t inv sp (entryOfRank t r) (markNumber t inv r)) _ (ten-mark t inv sp (entryOfRank t r) (markNumber t inv r)) (λ p. ten-answer _)
 
-ten-finish : (k : SpanType) (f : ℕ → Bool) (len p j : ℕ) → Only10 (finish k f len p j)
-ten-finish U16 f len p j = ten-or (seek f (len - p) p j)
-ten-finish U32 f len p j = ten-or (seek f (len - p) p j)
-ten-finish U64 f len p j = ten-answer _
+ten-hint : (t : Summary) (inv sp : List ℕ) (r : ℕ) → Only10 (hintAt t inv sp r)
+unfolding hintAt
+ten-hint t inv sp r = ten-then (markOfRank t inv sp r) _ (ten-rank t inv sp r) (λ m. ten-answer _)
+
+ten-cond : {A : Type 0} (b : Bool) (x y : Outcome A) → Only10 x → Only10 y → Only10 (cond b x y)
+ten-cond true x y h k = h
+ten-cond false x y h k = k
 
 ten-position : (ws : List ℕ) (t : Summary) (inv sp : List ℕ) (r : ℕ) → Only10 (positionOf ws t inv sp r)
 unfolding positionOf
 ten-position ws t inv sp r =
-    ten-then (decode t inv sp r) _ (ten-decode t inv sp r)
-    (λ h. ten-finish (kindAt t inv (entryOfRank t r)) (selected (t .plan .polarity) ws (t .plan .len)) (t .plan .len) (h .mark) (residual t inv r))
+    ten-then (markOfRank t inv sp r) _ (ten-rank t inv sp r)
+    (λ m. ten-cond (m .exact) _ _ (ten-answer (m .at)) (ten-or (seek (selected (t .plan .polarity) ws (t .plan .len)) (t .plan .len - m .at) (m .at) (m .residual))))
+
+ten-dwell : (ws : List ℕ) (t : Summary) (inv sp : List ℕ) (a b : ℕ) → Only10 (dwellAt ws t inv sp a b)
+unfolding dwellAt
+ten-dwell ws t inv sp a b =
+    ten-then (positionOf ws t inv sp a) _ (ten-position ws t inv sp a)
+    (λ p. ten-then (positionOf ws t inv sp b) _ (ten-position ws t inv sp b) (λ o. ten-refuse (ltb o p) (answer (o - p)) (ten-answer _)))
 
 -- ---- the readers
-in-tests : {A : Type 0} (ws : List ℕ) (t : Summary) (inv sp : List ℕ) (o rest : Outcome A) (cs : Conditions)
-    → InOrder o cs rest → InOrder (tested ws t inv sp o) (ofIndex ws t inv sp ++ cs) rest
-unfolding tested
-in-tests ws t inv sp o rest cs h = in-refuse _ 1 _ _ _ (in-refuse _ 2 _ _ _ (in-refuse _ 9 _ _ _ (in-refuse _ 6 _ _ _ (in-refuse _ 7 _ _ cs h))))
-
 store-back : (ws : List ℕ) (t : Summary) (inv sp : List ℕ) (r : ℕ) (o : Outcome Hint) → hintOf ws t inv sp r ≡ o
     → cellsOf inv sp (subinventoryOf ws t inv sp r) ≡ [] → (n : ℕ) × (o ≡ refused n)
 store-back ws t inv sp r (answer h) e d = absurd (omega (arith, store-some ws t inv sp r h e, store-length ws t inv sp r, ap length d))
 store-back ws t inv sp r (refused n) e d = (n, refl)
 
 pub readers-refuse : (ws : List ℕ) (t : Summary) (inv sp : List ℕ) → ReadersRefuse ws t inv sp
-unfolding selectOf hintOf dwellOf subinventoryOf
+unfolding selectOf hintOf dwellOf subinventoryOf storeOf
 readers-refuse ws t inv sp = record {
-  select = λ r. in-tests ws t inv sp _ _ _ (in-refuse (rankTooLarge t r) 8 _ _ _ (in-rest _));
+  select = λ r. in-tests (indexOrder ws t inv sp ++ ((rankTooLarge (N (t .plan)) r, 8) ∷ [])) _;
   select-10 = ten-position ws t inv sp;
-  hint = λ r. in-tests ws t inv sp _ _ _ (in-refuse (rankTooLarge t r) 8 _ _ _ (in-rest _));
-  hint-10 = ten-decode t inv sp;
-  dwell = λ a b. in-tests ws t inv sp _ _ _ (in-refuse (rankTooLarge t a) 8 _ _ _ (in-refuse (rankTooLarge t b) 8 _ _ _ (in-refuse (ltb b a) 11 _ _ _ (in-rest _))));
-  dwell-10 = λ a b. ten-then (positionOf ws t inv sp a) _ (ten-position ws t inv sp a) (λ p. ten-then (positionOf ws t inv sp b) _ (ten-position ws t inv sp b) (λ o. ten-refuse (ltb o p) (answer (o - p)) (ten-answer _)));
+  hint = λ r. in-tests (indexOrder ws t inv sp ++ ((rankTooLarge (N (t .plan)) r, 8) ∷ [])) _;
+  hint-10 = ten-hint t inv sp;
+  dwell = λ a b. in-tests (indexOrder ws t inv sp ++ ((rankTooLarge (N (t .plan)) a, 8) ∷ (rankTooLarge (N (t .plan)) b, 8) ∷ (ranksFall a b, 11) ∷ [])) _;
+  dwell-10 = ten-dwell ws t inv sp;
   store = λ r. (store-back ws t inv sp r (hintOf ws t inv sp r) refl, λ h. rw (h .1));
   store-some = store-some ws t inv sp;
   store-in = store-in ws t inv sp;

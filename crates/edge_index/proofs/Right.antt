@@ -1,43 +1,54 @@
--- Demand 2, from demand 3 alone.
-use mathlib.Core.Bool.{Bool, false}
-use mathlib.Core.List.{List}
+-- Demand 2, from demand 3 alone: a sound index passes the tests, and its marks lead to the bits.
+use mathlib.Core.Bool.{Bool, true, false, false≢true}
+use mathlib.Core.List.{List, _++_}
 use mathlib.Core.Logic.{⊎-elim}
 use mathlib.Core.Path.{_≡_, refl, sym, ap, ap₂, _∙_, subst}
-use Prim.Native.Nat.{ℕ, _+_, _-_, _*_, _/_, _%_, _^_, _≤_, _<_}
+use Prim.Native.Nat.{ℕ, _+_, _-_, _/_, _%_, _^_, _≤_, _<_}
 use native.Mathlib.Nat.{mod-one, div-lt-iff-lt-mul}
 use native.Mathlib.Omega.{arith}
 use lib.ListN.{length}
-use borrow.Author.Tests.{lt-ltb, le-ltb, lt-leb, le-leb, eq-eqb}
-use Rattle.rank_sel.specs.Numbers.{ceilDiv, sum}
-use Rattle.rank_sel.specs.Outcome.{Outcome, answer, orRefuse}
+use borrow.Author.Tests.{lt-ltb, le-ltb, lt-leb, le-leb}
+use Rattle.rank_sel.specs.Numbers.{sum}
+use Rattle.rank_sel.specs.Outcome.{Outcome, answer, orRefuse, Conditions, refuseBy}
 use Rattle.rank_sel.specs.Rank.{rank}
 use Rattle.rank_sel.specs.Seek.{select}
 use Rattle.rank_sel.proofs.Numbers.{lt-or-le}
+use Rattle.rank_sel.proofs.Outcome.{tests-more, passing}
 use Rattle.rank_sel.proofs.Select.{select-le, select-seek}
-use Rattle.bit_record.specs.Record.{selected, numSelected}
+use Rattle.bit_record.specs.Record.{selected, numSelected, bitOf}
 use Rattle.bit_record.specs.declared.Polarity.{Polarity}
-use Rattle.spacing.specs.Spacing.{N, L, M, S, maxLog2Words}
+use Rattle.spacing.specs.Spacing.{N, L, M}
 use Rattle.spacing.specs.declared.Choice.{Choice}
 use Rattle.spacing.specs.declared.Parameters.{Parameters}
 use Rattle.spacing.proofs.Facts.{PlanFacts, plan-facts, plan-num}
-use Rattle.inventory.specs.Index.{entriesOf, stride, inventoryLenOf, kindOf, entryOf}
-use Rattle.inventory.specs.Read.{cellAt, shapeAt, spilledAt, nearBy, placeAt, markNumber, residual, finish, positionOf, unlawful, tested, selectOf, hintOf, dwellOf, partBy, subinventoryOf}
-use Rattle.inventory.specs.declared.Shape.{Shape}
-use Rattle.inventory.specs.declared.SpanType.{SpanType}
-use Rattle.inventory.specs.declared.SpanType.the-variants.{U16, U32, U64}
-use Rattle.inventory.specs.declared.Summary.{Summary}
+use Rattle.inventory.specs.Index.{entriesOf, inventoryLenOf, kindOf, entryOf}
+use Rattle.inventory.specs.Shape.{nearBy}
+use Rattle.inventory.specs.declared.shape.Shape.{Shape}
+use Rattle.inventory.specs.declared.shape.SpanType.{SpanType}
+use Rattle.inventory.specs.declared.shape.SpanType.the-variants.{U16, U32, U64}
+use Rattle.inventory.specs.declared.summary.Summary.{Summary}
+use Rattle.read_inventory.specs.Jump.{selectOf, hintOf, dwellAt, dwellOf, partBy, storeOf, subinventoryOf}
+use Rattle.read_inventory.specs.Read.{cellAt, shapeAt, spilledAt, placeAt, isU64, markNumber, residual, Mark, markOfRank, hintAt, finish, positionOf}
+use Rattle.read_inventory.specs.Tests.{ofIndex, ofRank, ofRanks}
+use Rattle.read_inventory.proofs.Answers.{hint-mark}
+use Rattle.read_inventory.proofs.Passing.{IndexHeld, index-none}
 use Rattle.inventory.proofs.Marks.{start-here}
 use Rattle.inventory.proofs.Ranks.{entry-in, rank-entry, rank-sub, rank-in}
-use Rattle.inventory.proofs.ReadBack.{kind-whole, kind-headless, some-lanes, spill-heads, in-mark, mark-in, marks-placed, shape-by, spilled-by}
+use Rattle.inventory.proofs.Entries.{kind-whole, kind-headless, some-lanes, spill-heads, in-mark, mark-in, marks-placed, shape-by, spilled-by}
 use Rattle.inventory.proofs.Sums.{sum-part}
 use Rattle.edge_index.specs.Right.{Within, Right}
-use Rattle.edge_index.specs.Sound.{bitOf, qOf, marksOf, spilledOf, markRank, Sound}
+use Rattle.edge_index.specs.Sound.{qOf, marksOf, spilledOf, markRank, Sound}
 
--- step 7 from the mark of rank m, past j: a U64 mark is the bit itself
-finish-mark : (k : SpanType) (f : ℕ → Bool) (len m j : ℕ) → m + j < rank f len → (k ≡ U64 → j ≡ 0) → finish k f len (select f len m) j ≡ answer (select f len (m + j))
-finish-mark U16 f len m j h z = ap (orRefuse 10) (select-seek f len m j h)
-finish-mark U32 f len m j h z = ap (orRefuse 10) (select-seek f len m j h)
-finish-mark U64 f len m j h z = ap (λ (r : ℕ). answer (select f len r)) (omega (arith, z refl))
+-- step 7 from the mark of rank m, past j: an exact mark is the bit itself
+finish-mark : (b : Bool) (f : ℕ → Bool) (len m j : ℕ) → m + j < rank f len → (b ≡ true → j ≡ 0)
+    → finish f len (record { at = select f len m; residual = j; exact = b }) ≡ answer (select f len (m + j))
+finish-mark true f len m j h z = ap (λ (r : ℕ). answer (select f len r)) (omega (arith, z refl))
+finish-mark false f len m j h z = ap (orRefuse 10) (select-seek f len m j h)
+
+exact-kind : (k : SpanType) → isU64 k ≡ true → k ≡ U64
+exact-kind U16 e = absurd (false≢true e)
+exact-kind U32 e = absurd (false≢true e)
+exact-kind U64 e = refl
 
 module _ (ws : List ℕ) (len : ℕ) (pol : Polarity) (choice : Choice) (t : Summary) (inv sp : List ℕ) (s : Sound ws len pol choice t inv sp) where
   abbrev f : ℕ → Bool
@@ -57,27 +68,16 @@ module _ (ws : List ℕ) (len : ℕ) (pol : Polarity) (choice : Choice) (t : Sum
   num r h = omega (arith, plan-num ws len pol p c)
 
   -- ---- the tests are passed
-  lawful : unlawful t ≡ false
-  unfolding unlawful inventoryLenOf
-  lawful =
-      rw (
-        le-ltb (p .len) (N p) (c .of .few),
-        le-ltb 63 (L p) (c .of .smallL),
-        le-ltb maxLog2Words (M p) (c .of .smallM),
-        eq-eqb (S p) (L p - M p - 2) (c .of .spaced),
-        eq-eqb (t .«inventory_len») (entriesOf p * stride p + 1) (s .inventoryLen),
-      )
+  index-held : IndexHeld ws t inv sp
+  unfolding inventoryLenOf
+  index-held = record {
+    admitted = c .of .admitted;
+    lawful = record { few = c .of .few; smallL = c .of .smallL; smallM = c .of .smallM; spaced = c .of .spaced; counted = s .inventoryLen };
+    held = record { own = s .inventoryHeld; over = s .spillHeld };
+  }
 
-  tests-pass : {A : Type 0} (rest : Outcome A) → tested ws t inv sp rest ≡ rest
-  unfolding tested
-  tests-pass rest =
-      rw (
-        le-ltb (2 ^ 62 - 1) (p .len) (omega (arith, c .of .admitted .short)),
-        le-ltb (length ws) (ceilDiv (p .len) 64) (omega (arith, c .of .admitted .held)),
-        lawful,
-        le-ltb (length inv) (t .«inventory_len») (s .inventoryHeld),
-        le-ltb (length sp) (t .«spill_len») (s .spillHeld),
-      )
+  tests-pass : {A : Type 0} (cs : Conditions) (rest : Outcome A) → refuseBy (ofIndex ws t inv sp ++ cs) rest ≡ refuseBy cs rest
+  tests-pass cs rest = tests-more (ofIndex ws t inv sp) cs rest ∙ passing (ofIndex ws t inv sp) (refuseBy cs rest) (index-none ws t inv sp index-held)
 
   -- ---- each rank
   abbrev e : ℕ → ℕ
@@ -102,22 +102,29 @@ module _ (ws : List ℕ) (len : ℕ) (pol : Polarity) (choice : Choice) (t : Sum
   mark-lt : (r : ℕ) → r < N p → markOf r < N p
   mark-lt r h = rank-in p (e r) _ (mark-in pos p (e r) (sub r / 2 ^ qOf pos p (e r)) (mark-number-in r h)) .0
 
-  none-passed : (r : ℕ) → kindOf pos p (e r) ≡ U64 → passes r ≡ 0
-  none-passed r z = ap (λ (q : ℕ). sub r % 2 ^ q) (kind-whole pos p (e r) z) ∙ mod-one (sub r)
+  none-passed : (r : ℕ) → isU64 (kindOf pos p (e r)) ≡ true → passes r ≡ 0
+  none-passed r z = ap (λ (q : ℕ). sub r % 2 ^ q) (kind-whole pos p (e r) (exact-kind (kindOf pos p (e r)) z)) ∙ mod-one (sub r)
 
   record-same : selected (p .polarity) ws (p .len) ≡ f
   record-same = ap₂ (λ (o : Polarity) (l : ℕ). selected o ws l) (c .polarity) (c .length)
 
+  abbrev exact : ℕ → Bool
+  exact r = isU64 (kindOf pos p (e r))
+
+  mark-right : (r : ℕ) → r < N p → markOfRank t inv sp r ≡ answer (record { at = pos (markOf r); residual = passes r; exact = exact r })
+  unfolding residual
+  mark-right r h = hint-mark t inv sp r _ (s .met r h .mark) ∙ rw (s .kinds (e r) (entry-of r h), s .quanta (e r) (entry-of r h))
+
   position-right : (r : ℕ) → r < N p → positionOf ws t inv sp r ≡ answer (pos r)
-  unfolding positionOf residual
+  unfolding positionOf
   position-right r h =
       let m = s .met r h in
       let n : markOf r + passes r ≡ r = omega (arith, m .passed, s .bits r h .before, s .bits (markOf r) (mark-lt r h) .before) in
-      let k : SpanType = kindOf pos p (e r) in
-      rw (m .mark, s .kinds (e r) (entry-of r h), s .quanta (e r) (entry-of r h))
-      (ap (λ (g : ℕ → Bool). finish k g (p .len) (pos (markOf r)) (passes r)) record-same
-      ∙ ap (λ (l : ℕ). finish k f l (pos (markOf r)) (passes r)) (c .length)
-      ∙ finish-mark k f len (markOf r) (passes r) (rw n (num r h)) (none-passed r)
+      let k : Mark = record { at = pos (markOf r); residual = passes r; exact = exact r } in
+      rw (mark-right r h)
+      (ap (λ (g : ℕ → Bool). finish g (p .len) k) record-same
+      ∙ ap (λ (l : ℕ). finish f l k) (c .length)
+      ∙ finish-mark (exact r) f len (markOf r) (passes r) (rw n (num r h)) (none-passed r)
       ∙ ap (λ (i : ℕ). answer (pos i)) n)
 
   rise : (a b : ℕ) → a ≤ b → b < N p → pos a ≤ pos b
@@ -125,7 +132,7 @@ module _ (ws : List ℕ) (len : ℕ) (pol : Polarity) (choice : Choice) (t : Sum
 
   hint-right : (r : ℕ) → r < N p → hintOf ws t inv sp r ≡ answer (record { mark = pos (markOf r); rank = markOf r })
   unfolding hintOf
-  hint-right r h = tests-pass _ ∙ rw (lt-leb (N p) r h) (s .met r h .mark)
+  hint-right r h = tests-pass (ofRank (N p) r) (hintAt t inv sp r) ∙ rw (lt-leb (N p) r h) (s .met r h .mark)
 
   -- ---- the cells where a mark is recorded
   shape-right : (k : ℕ) → k < entriesOf p → shapeAt t inv k ≡ entryOf pos p k .shape
@@ -158,18 +165,18 @@ module _ (ws : List ℕ) (len : ℕ) (pol : Polarity) (choice : Choice) (t : Sum
       x = entryOf pos p k .shape
 
   store-right : (r : ℕ) → r < N p → Within (placeAt t inv (e r) (markNumber t inv r)) (subinventoryOf ws t inv sp r)
-  unfolding subinventoryOf markNumber
+  unfolding subinventoryOf storeOf markNumber
   store-right r h = rw (hint-right r h, s .quanta (e r) (entry-of r h)) (place-in (e r) (sub r / 2 ^ qOf pos p (e r)) (entry-of r h) (mark-number-in r h))
 
   pub right : Right ws len pol t inv sp
-  unfolding selectOf hintOf dwellOf
+  unfolding selectOf hintOf dwellOf dwellAt
   right = record {
-    select = λ r h. (pos r, tests-pass _ ∙ rw (lt-leb (N p) r h) (position-right r h), s .bits r h);
+    select = λ r h. (pos r, tests-pass (ofRank (N p) r) (positionOf ws t inv sp r) ∙ rw (lt-leb (N p) r h) (position-right r h), s .bits r h);
     hint = λ r h. (pos (markOf r), hint-right r h, s .bits (markOf r) (mark-lt r h));
     dwell = λ a b l h. (
       pos a,
       pos b,
-      tests-pass _
+      tests-pass (ofRanks (N p) a b) (dwellAt ws t inv sp a b)
           ∙ rw (
             lt-leb (N p) a (omega arith),
             lt-leb (N p) b h,
@@ -183,9 +190,9 @@ module _ (ws : List ℕ) (len : ℕ) (pol : Polarity) (choice : Choice) (t : Sum
       s .bits b h,
     );
     store = store-right;
-    selectPast = λ r h. tests-pass _ ∙ rw (le-leb (N p) r h);
-    hintPast = λ r h. tests-pass _ ∙ rw (le-leb (N p) r h);
-    dwellPastA = λ a b h. tests-pass _ ∙ rw (le-leb (N p) a h);
-    dwellPastB = λ a b l h. tests-pass _ ∙ rw (lt-leb (N p) a l, le-leb (N p) b h);
-    dwellFalls = λ a b l h. tests-pass _ ∙ rw (lt-leb (N p) a h, lt-leb (N p) b (omega arith), lt-ltb b a l);
+    selectPast = λ r h. tests-pass (ofRank (N p) r) (positionOf ws t inv sp r) ∙ rw (le-leb (N p) r h);
+    hintPast = λ r h. tests-pass (ofRank (N p) r) (hintAt t inv sp r) ∙ rw (le-leb (N p) r h);
+    dwellPastA = λ a b h. tests-pass (ofRanks (N p) a b) (dwellAt ws t inv sp a b) ∙ rw (le-leb (N p) a h);
+    dwellPastB = λ a b l h. tests-pass (ofRanks (N p) a b) (dwellAt ws t inv sp a b) ∙ rw (lt-leb (N p) a l, le-leb (N p) b h);
+    dwellFalls = λ a b l h. tests-pass (ofRanks (N p) a b) (dwellAt ws t inv sp a b) ∙ rw (lt-leb (N p) a h, lt-leb (N p) b (omega arith), lt-ltb b a l);
   }

@@ -1,8 +1,8 @@
--- Cells that hold the index have demand 3.
+-- Cells that hold the index have demand 3: what is read from them is what was reckoned, and that is algebra on ranks.
 use mathlib.Core.Bool.{Bool, true, false, cond}
 use mathlib.Core.List.{List}
 use mathlib.Core.Logic.{⊎-elim}
-use mathlib.Core.Path.{_≡_, refl, sym, ap, _∙_, subst}
+use mathlib.Core.Path.{_≡_, refl, sym, ap, ap₂, _∙_, subst}
 use Prim.Native.Nat.{ℕ, suc, _+_, _-_, _*_, _/_, _%_, _^_, _≤_, _<_, max}
 use native.Mathlib.Nat.{add-mul, mul-div-cancel, div-add-mod', mod-lt, div-eq-of-lt-le}
 use native.Mathlib.Omega.{arith}
@@ -14,42 +14,33 @@ use Rattle.rank_sel.specs.Outcome.{answer}
 use Rattle.rank_sel.specs.Rank.{rank}
 use Rattle.rank_sel.proofs.Numbers.{lt-or-le}
 use Rattle.rank_sel.proofs.Rank.{rank-one}
-use Rattle.rank_sel.proofs.Select.{select-sought, select-rank, select-below, select-lt, select-le}
-use Rattle.bit_record.specs.Record.{selected, numSelected}
+use Rattle.rank_sel.proofs.Select.{select-sought, select-rank, select-below, select-le}
+use Rattle.bit_record.specs.Record.{selected, numSelected, bitOf}
 use Rattle.bit_record.specs.declared.Polarity.{Polarity}
 use Rattle.spacing.specs.Spacing.{N, L, planOf}
 use Rattle.spacing.specs.declared.Choice.{Choice}
 use Rattle.spacing.specs.declared.Parameters.{Parameters}
-use Rattle.spacing.proofs.Facts.{PlanFacts, plan-admitted, plan-facts, plan-num}
+use Rattle.spacing.proofs.Facts.{PlanFacts, plan-facts, plan-num}
 use Rattle.inventory.specs.Index.{entriesOf, stride, inventoryLenOf, ranksOf, mark, bound, startOf, spillStart, summaryOf}
-use Rattle.inventory.specs.Read.{startAt, decode}
-use Rattle.inventory.specs.declared.Summary.{Summary}
-use Rattle.inventory.proofs.Marks.{Rising, start-here}
+use Rattle.read_inventory.specs.Read.{startAt, hintAt}
+use Rattle.inventory.specs.declared.summary.Summary.{Summary}
+use Rattle.inventory.proofs.Marks.{Rising, rising, start-here}
+use Rattle.build_inventory.specs.Positions.{posIn}
 use Rattle.inventory.proofs.Placed.{Placed}
-use Rattle.inventory.proofs.ReadBack.{kind-heads, kind-spills, kind-read, start-read, quantum-read, second-read, unused-read, first-rank, mark-in, decode-read}
+use Rattle.inventory.proofs.Entries.{kind-heads, kind-spills, first-rank, mark-in}
+use Rattle.read_inventory.proofs.ReadBack.{kind-read, start-read, quantum-read, second-read, unused-read, hint-read}
 use Rattle.inventory.proofs.Ranks.{entry-in, in-entry, rank-entry, rank-sub, rank-in}
 use Rattle.inventory.proofs.Sums.{tile, tile-one}
-use Rattle.edge_index.specs.Sound.{bitOf, Bit, Holds, qOf, marksOf, spilledOf, markRank, nextRank, Met, Sound}
-
--- the bits of a planned record rise
-pub rising : (ws : List ℕ) (len : ℕ) (pol : Polarity) (p : Parameters) → PlanFacts ws len pol p → Rising (bitOf ws len pol) p
-unfolding numSelected
-rising ws len pol p c = record {
-  rises = λ r s l h. select-lt (selected pol ws len) len r s l (omega (arith, plan-num ws len pol p c));
-  below = λ r h. omega (arith, c .length, select-below (selected pol ws len) len r (omega (arith, plan-num ws len pol p c)));
-  short = omega (arith, c .length, plan-admitted ws len pol p c .short);
-  smallL = c .of .smallL;
-  spaced = omega (arith, c .of .spaced);
-}
+use Rattle.edge_index.specs.Sound.{Bit, EntryHolds, qOf, marksOf, spilledOf, markRank, nextRank, Met, Sound}
 
 -- each rank lies in one entry
-pub holds-rank : (p : Parameters) (r : ℕ) → r < N p → Holds p (r / 2 ^ L p) r
+pub holds-rank : (p : Parameters) (r : ℕ) → r < N p → EntryHolds p (r / 2 ^ L p) r
 holds-rank p r h =
     let d = div-add-mod' r (2 ^ L p) in
     let m = mod-lt r (pow-pos (L p)) in
     record { from = omega arith; to = omega (arith, add-mul (r / 2 ^ L p) 1 (2 ^ L p)) }
 
-pub holds-one : (p : Parameters) (r e : ℕ) → Holds p e r → r / 2 ^ L p ≡ e
+pub holds-one : (p : Parameters) (r e : ℕ) → EntryHolds p e r → r / 2 ^ L p ≡ e
 holds-one p r e h = div-eq-of-lt-le (2 ^ L p) (h .from) (omega arith)
 
 module _ (ws : List ℕ) (len : ℕ) (pol : Polarity) (choice : Choice) (p : Parameters) (planned : planOf ws len pol choice ≡ answer p) where
@@ -62,8 +53,12 @@ module _ (ws : List ℕ) (len : ℕ) (pol : Polarity) (choice : Choice) (p : Par
   facts : PlanFacts ws len pol p
   facts = plan-facts ws len pol choice p planned
 
+  -- the plan's polarity and len are the record's
+  pub pos-same : posIn ws p ≡ pos
+  pos-same = ap₂ (λ (o : Polarity) (l : ℕ). bitOf ws l o) (facts .polarity) (facts .length)
+
   g : Rising pos p
-  g = rising ws len pol p facts
+  g = subst (λ (h : ℕ → ℕ). Rising h p) pos-same (rising ws p (facts .of))
 
   -- the bit of a rank below N
   num : (r : ℕ) → r < N p → r < rank f len
@@ -100,14 +95,14 @@ module _ (ws : List ℕ) (len : ℕ) (pol : Polarity) (choice : Choice) (p : Par
     t = summaryOf pos p
 
     -- the mark of subrank s, by its rank
-    decode-at : (e s : ℕ) → e < entriesOf p → s < ranksOf p e
-        → decode t inv sp (e * 2 ^ L p + s) ≡ answer (record { mark = pos (markRank pos p e (s / 2 ^ qOf pos p e)); rank = markRank pos p e (s / 2 ^ qOf pos p e) })
+    hint-here : (e s : ℕ) → e < entriesOf p → s < ranksOf p e
+        → hintAt t inv sp (e * 2 ^ L p + s) ≡ answer (record { mark = pos (markRank pos p e (s / 2 ^ qOf pos p e)); rank = markRank pos p e (s / 2 ^ qOf pos p e) })
     unfolding mark
-    decode-at e s h l = decode-read pos p g (facts .of .spaced) inv sp w e h s l ∙ rw (first-rank pos p e)
+    hint-here e s h l = hint-read pos p g (facts .of .spaced) inv sp w e h s l ∙ rw (first-rank pos p e)
 
     marked : (e k : ℕ) → e < entriesOf p → k < marksOf pos p e
-        → decode t inv sp (markRank pos p e k) ≡ answer (record { mark = pos (markRank pos p e k); rank = markRank pos p e k })
-    marked e k h l = rw (mul-div-cancel k (pow-pos (qOf pos p e))) at (decode-at e (k * 2 ^ qOf pos p e) h (mark-in pos p e k l))
+        → hintAt t inv sp (markRank pos p e k) ≡ answer (record { mark = pos (markRank pos p e k); rank = markRank pos p e k })
+    marked e k h l = rw (mul-div-cancel k (pow-pos (qOf pos p e))) at (hint-here e (k * 2 ^ qOf pos p e) h (mark-in pos p e k l))
 
     between : (e k : ℕ) → e < entriesOf p → k + 1 < marksOf pos p e
         → rank f (pos (markRank pos p e (k + 1))) ≡ rank f (suc (pos (markRank pos p e k))) + (2 ^ qOf pos p e - 1)
@@ -130,7 +125,7 @@ module _ (ws : List ℕ) (len : ℕ) (pol : Polarity) (choice : Choice) (p : Par
         let d = div-add-mod' s (2 ^ q) in
         let m : markRank pos p e (s / 2 ^ q) + s % 2 ^ q ≡ e * 2 ^ L p + s = omega arith in
         record {
-          mark = decode-at e s h l;
+          mark = hint-here e s h l;
           from = subst (λ (r : ℕ). pos (markRank pos p e (s / 2 ^ q)) ≤ pos r) m (select-le f len (markRank pos p e (s / 2 ^ q)) (s % 2 ^ q) (rw m (num (e * 2 ^ L p + s) a)));
           next = λ n. g .rises (e * 2 ^ L p + s) (nextRank pos p e (s / 2 ^ q)) (before-next e s l) n;
           passed = omega (arith, bit-rank (e * 2 ^ L p + s) a, bit-rank (markRank pos p e (s / 2 ^ q)) (omega arith));

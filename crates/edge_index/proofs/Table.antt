@@ -10,9 +10,11 @@ use Rattle.bit_record.specs.Record.{bitAt, selected, numSelected, countOf}
 use Rattle.spacing.specs.Spacing.{cappedLog2Words, chosenPlan, overheadSpan, overheadTarget, planFor, planOf, spanLog2}
 use Rattle.inventory.specs.Index.{bound, entriesOf, entryFrom, entryOf, inventoryLenOf, inventoryOf, inventoryTo, lane, mark, ownCells, packed, ranksOf, spillCells, spillOf, spillStart, spillTo, startOf, stream, summaryOf}
 use Rattle.inventory.specs.Lanes.{laneOf, pack, tabulate}
-use Rattle.inventory.specs.Read.{cellAt, decode, dwellOf, kindAt, markAt, markNumber, numberAt, placeAt, positionOf, quantumAt, residual, selectOf, shapeAt, spanAt, startAt, tested, unlawful}
+use Rattle.inventory.specs.Lawful.{unlawful}
+use Rattle.read_inventory.specs.Jump.{dwellAt, dwellOf, selectOf}
+use Rattle.read_inventory.specs.Read.{cellAt, kindAt, markAt, markNumber, markOfRank, numberAt, placeAt, positionOf, quantumAt, residual, shapeAt, spanAt, startAt}
 use Rattle.inventory.specs.Shape.{log2OnesPerSub32}
-use Rattle.build_inventory.specs.Build.{buildOf, checkOf, fitted, measured, samePlan, sameSummary}
+use Rattle.build_inventory.specs.Build.{buildFrom, buildOf, checkOf, fitted, samePlan, sameSummary}
 use Rattle.build_inventory.specs.Compare.{sameIndex, sameList}
 use Rattle.edge_index.specs.Table.{Agree, table}
 
@@ -21,6 +23,6 @@ unfolding rank seek select bit selectInWord bitAt selected numSelected countOf
     clog2 firstFrom ilog2 cappedLog2Words chosenPlan overheadSpan overheadTarget planFor planOf spanLog2 ofInt mul div toUnsigned
     bound entriesOf entryFrom entryOf inventoryLenOf inventoryOf inventoryTo lane mark ownCells packed ranksOf spillCells spillOf spillStart spillTo startOf stream summaryOf
     laneOf pack sum tabulate
-    cellAt decode dwellOf kindAt markAt markNumber numberAt placeAt positionOf quantumAt residual selectOf shapeAt spanAt startAt tested unlawful
-    log2OnesPerSub32 buildOf checkOf fitted measured samePlan sameSummary sameIndex sameList
+    cellAt markOfRank dwellAt dwellOf kindAt markAt markNumber numberAt placeAt positionOf quantumAt residual selectOf shapeAt spanAt startAt unlawful
+    log2OnesPerSub32 buildFrom buildOf checkOf fitted samePlan sameSummary sameIndex sameList
 table-agrees = (refl, (refl, (refl, (refl, (refl, (refl, (refl, (refl, (refl, (refl, (refl, (refl, (refl, (refl, (refl, (refl, (refl, (refl, (refl, (refl, (refl, (refl, (refl, (refl, (refl, (refl, (refl, (refl, (refl, (refl, (refl, (refl, (refl, (refl, (refl, (refl, (refl, (refl, (refl, (refl, (refl, (refl, (refl, (refl, (refl, (refl, (refl, (refl, (refl, tt)))))))))))))))))))))))))))))))))))))))))))))))))

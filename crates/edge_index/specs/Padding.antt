@@ -7,8 +7,8 @@ use Rattle.bit_record.specs.Record.{countOf}
 use Rattle.bit_record.specs.declared.Polarity.{Polarity}
 use Rattle.spacing.specs.Spacing.{planOf}
 use Rattle.spacing.specs.declared.Choice.{Choice}
-use Rattle.inventory.specs.Read.{selectOf, hintOf, dwellOf, subinventoryOf}
-use Rattle.inventory.specs.declared.Summary.{Summary}
+use Rattle.read_inventory.specs.Jump.{selectOf, hintOf, dwellOf, subinventoryOf}
+use Rattle.inventory.specs.declared.summary.Summary.{Summary}
 use Rattle.build_inventory.specs.Build.{sizeOf, checkOf}
 use Rattle.edge_index.specs.Promises.{buildAnswers, inventoryHolds, spillHolds}
 

@@ -9,7 +9,7 @@ use Rattle.rank_sel.specs.Outcome.{Outcome, answer, refused}
 use Rattle.bit_record.specs.Record.{SameRecord}
 use Rattle.bit_record.specs.declared.Polarity.{Polarity}
 use Rattle.spacing.specs.declared.Choice.{Choice}
-use Rattle.inventory.specs.declared.Summary.{Summary}
+use Rattle.inventory.specs.declared.summary.Summary.{Summary}
 use Rattle.build_inventory.specs.Build.{buildOf, checkOf, inventoryAfter, spillAfter}
 use Rattle.edge_index.specs.Right.{Right}
 use Rattle.edge_index.specs.Sound.{Sound}

@@ -1,6 +1,6 @@
 -- Demand 1: each refusal is given exactly where its condition holds and none before it in the order does. Document 01,
 -- "When a call is turned down". The conditions are those that the definitions name.
-use mathlib.Core.Bool.{Bool, cond, _&&_}
+use mathlib.Core.Bool.{cond, _&&_}
 use mathlib.Core.List.{List, [], _∷_, _++_}
 use mathlib.Core.Logic.{_↔_}
 use mathlib.Core.Option.{Option, none, some}
@@ -9,23 +9,22 @@ use Prim.Native.Nat.{ℕ, _-_, _^_, _≤_, _<_}
 use lib.Count.{ones}
 use lib.Dec.{ltb}
 use lib.ListN.{length}
-use Rattle.rank_sel.specs.Outcome.{Outcome, answer, refused, andThen}
+use Rattle.rank_sel.specs.Outcome.{Outcome, answer, refused, Conditions}
 use Rattle.select_in_word.specs.Select.{selectInWord}
 use Rattle.bit_record.specs.Record.{lenTooLarge, tooFewWords, numSelected, countOf}
 use Rattle.bit_record.specs.declared.Polarity.{Polarity}
-use Rattle.spacing.specs.Spacing.{rule, planFor, onesPerInventoryTooLarge, wordsPerSubinventoryTooLarge, overheadNotPositive, planOf}
+use Rattle.spacing.specs.Spacing.{N, rule, planFor, onesPerInventoryTooLarge, wordsPerSubinventoryTooLarge, overheadNotPositive, planOf}
 use Rattle.spacing.specs.declared.Choice.{Choice}
 use Rattle.spacing.specs.declared.Parameters.{Parameters}
 use Rattle.inventory.specs.Index.{inventoryLenOf, summaryOf}
-use Rattle.inventory.specs.Read.{Hint, decode, positionOf, unlawful, rankTooLarge, selectOf, hintOf, dwellBy, dwellOf, subinventoryOf, PartIn, cellsOf, cellCount}
-use Rattle.inventory.specs.declared.Summary.{Summary}
-use Rattle.build_inventory.specs.Build.{sizesOf, sizeOf, buildOf, sameSummary, checkOf}
+use Rattle.inventory.specs.Lawful.{unlawful}
+use Rattle.inventory.specs.declared.summary.Summary.{Summary}
+use Rattle.build_inventory.specs.Build.{sizeOf, buildOf, sameSummary, checkOf}
 use Rattle.build_inventory.specs.Compare.{sameIndex}
 use Rattle.build_inventory.specs.Positions.{posIn}
-
--- a condition, and the number that it gives
-abbrev pub Conditions : Type 0
-Conditions = List (Bool × ℕ)
+use Rattle.read_inventory.specs.Jump.{selectOf, hintOf, dwellAt, dwellOf, subinventoryOf, PartIn, cellsOf, cellCount}
+use Rattle.read_inventory.specs.Read.{Hint, hintAt, positionOf}
+use Rattle.read_inventory.specs.Tests.{inventoryTooShort, spillTooShort, rankTooLarge, ranksFall}
 
 -- the number of the first that holds
 abbrev pub firstOf : Conditions → Option ℕ
@@ -42,21 +41,21 @@ abbrev pub Only10 : {A : Type 0} → Outcome A → Type 0
 Only10 o = (n : ℕ) → o ≡ refused n → n ≡ 10
 
 -- ---- of a record: 1, 2; and of a choice: 3, 4, 5
-abbrev pub ofRecord : List ℕ → ℕ → Conditions
-ofRecord ws len = (lenTooLarge len, 1) ∷ (tooFewWords ws len, 2) ∷ []
+abbrev pub recordOrder : List ℕ → ℕ → Conditions
+recordOrder ws len = (lenTooLarge len, 1) ∷ (tooFewWords ws len, 2) ∷ []
 
-abbrev pub ofChoice : List ℕ → ℕ → Polarity → Choice → Conditions
-ofChoice ws len pol choice =
+abbrev pub choiceOrder : List ℕ → ℕ → Polarity → Choice → Conditions
+choiceOrder ws len pol choice =
     (onesPerInventoryTooLarge (numSelected pol ws len) len (rule choice), 3)
     ∷ (wordsPerSubinventoryTooLarge (rule choice), 4)
     ∷ (overheadNotPositive (rule choice), 5)
     ∷ []
 
 -- ---- of a summary and cells: 1, 2, 9, 6, 7
-abbrev pub ofIndex : List ℕ → Summary → List ℕ → List ℕ → Conditions
-ofIndex ws t inv sp =
-    ofRecord ws (t .plan .len)
-    ++ ((unlawful t, 9) ∷ (ltb (length inv) (t .«inventory_len»), 6) ∷ (ltb (length sp) (t .«spill_len»), 7) ∷ [])
+abbrev pub indexOrder : List ℕ → Summary → List ℕ → List ℕ → Conditions
+indexOrder ws t inv sp =
+    recordOrder ws (t .plan .len)
+    ++ ((unlawful t, 9) ∷ (inventoryTooShort t inv, 6) ∷ (spillTooShort t sp, 7) ∷ [])
 
 -- the plan of a record and a choice, where nothing turns them down
 abbrev pub planIn : List ℕ → ℕ → Polarity → Choice → Parameters
@@ -69,16 +68,16 @@ module _ (ws : List ℕ) (len : ℕ) (pol : Polarity) (choice : Choice) where
 
   -- 1 to 5, then 6 where the inventory count is over so many cells
   abbrev pub toSix : ℕ → Conditions
-  toSix most = (ofRecord ws len ++ ofChoice ws len pol choice) ++ ((ltb most (inventoryLenOf (planIn ws len pol choice)), 6) ∷ [])
+  toSix most = (recordOrder ws len ++ choiceOrder ws len pol choice) ++ ((ltb most (inventoryLenOf (planIn ws len pol choice)), 6) ∷ [])
 
   -- 7 where the spill count is
   abbrev pub toSeven : ℕ → ℕ → Conditions
   toSeven cells spill = toSix cells ++ ((ltb spill (summaryIn .«spill_len»), 7) ∷ [])
 
   pub record MakersRefuse : Type 0 where
-    pub count : InOrder (countOf ws len pol) (ofRecord ws len) (answer (numSelected pol ws len))
-    pub plan : InOrder (planOf ws len pol choice) (ofRecord ws len ++ ofChoice ws len pol choice) (answer (planIn ws len pol choice))
-    pub size : InOrder (sizeOf ws len pol choice) (toSix (2 ^ 64 - 1)) (answer (sizesOf summaryIn))
+    pub count : InOrder (countOf ws len pol) (recordOrder ws len) (answer (numSelected pol ws len))
+    pub plan : InOrder (planOf ws len pol choice) (recordOrder ws len ++ choiceOrder ws len pol choice) (answer (planIn ws len pol choice))
+    pub size : InOrder (sizeOf ws len pol choice) (toSix (2 ^ 64 - 1)) (answer (record { inventory = summaryIn .«inventory_len»; spill = summaryIn .«spill_len» }))
     pub build : (cells spill : ℕ) → InOrder (buildOf ws len pol choice cells spill) (toSeven cells spill) (answer summaryIn)
     pub check : (t : Summary) (inv sp : List ℕ)
         → InOrder (checkOf ws len pol choice t inv sp) (toSeven (length inv) (length sp))
@@ -86,15 +85,15 @@ module _ (ws : List ℕ) (len : ℕ) (pol : Polarity) (choice : Choice) where
 
 module _ (ws : List ℕ) (t : Summary) (inv sp : List ℕ) where
   pub record ReadersRefuse : Type 0 where
-    pub select : (r : ℕ) → InOrder (selectOf ws t inv sp r) (ofIndex ws t inv sp ++ ((rankTooLarge t r, 8) ∷ [])) (positionOf ws t inv sp r)
+    pub select : (r : ℕ) → InOrder (selectOf ws t inv sp r) (indexOrder ws t inv sp ++ ((rankTooLarge (N (t .plan)) r, 8) ∷ [])) (positionOf ws t inv sp r)
     pub select-10 : (r : ℕ) → Only10 (positionOf ws t inv sp r)
-    pub hint : (r : ℕ) → InOrder (hintOf ws t inv sp r) (ofIndex ws t inv sp ++ ((rankTooLarge t r, 8) ∷ [])) (decode t inv sp r)
-    pub hint-10 : (r : ℕ) → Only10 (decode t inv sp r)
+    pub hint : (r : ℕ) → InOrder (hintOf ws t inv sp r) (indexOrder ws t inv sp ++ ((rankTooLarge (N (t .plan)) r, 8) ∷ [])) (hintAt t inv sp r)
+    pub hint-10 : (r : ℕ) → Only10 (hintAt t inv sp r)
     -- 10 for a before b, then for a negative dwell
     pub dwell : (a b : ℕ) → InOrder (dwellOf ws t inv sp a b)
-        (ofIndex ws t inv sp ++ ((rankTooLarge t a, 8) ∷ (rankTooLarge t b, 8) ∷ (ltb b a, 11) ∷ []))
-        (andThen (positionOf ws t inv sp a) (λ p. andThen (positionOf ws t inv sp b) (λ o. dwellBy p o)))
-    pub dwell-10 : (a b : ℕ) → Only10 (andThen (positionOf ws t inv sp a) (λ p. andThen (positionOf ws t inv sp b) (λ o. dwellBy p o)))
+        (indexOrder ws t inv sp ++ ((rankTooLarge (N (t .plan)) a, 8) ∷ (rankTooLarge (N (t .plan)) b, 8) ∷ (ranksFall a b, 11) ∷ []))
+        (dwellAt ws t inv sp a b)
+    pub dwell-10 : (a b : ℕ) → Only10 (dwellAt ws t inv sp a b)
     -- store's slice is empty exactly where hint refuses; where hint answers, the part has a cell; its cells are always lent
     pub store : (r : ℕ) → (cellsOf inv sp (subinventoryOf ws t inv sp r) ≡ []) ↔ ((n : ℕ) × (hintOf ws t inv sp r ≡ refused n))
     pub store-some : (r : ℕ) (h : Hint) → hintOf ws t inv sp r ≡ answer h → 0 < cellCount (subinventoryOf ws t inv sp r)

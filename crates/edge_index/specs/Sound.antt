@@ -8,20 +8,16 @@ use lib.ListN.{length, getD}
 use Rattle.rank_sel.specs.Numbers.{sum}
 use Rattle.rank_sel.specs.Outcome.{answer}
 use Rattle.rank_sel.specs.Rank.{rank}
-use Rattle.rank_sel.specs.Seek.{select}
-use Rattle.bit_record.specs.Record.{selected}
+use Rattle.bit_record.specs.Record.{selected, bitOf}
 use Rattle.bit_record.specs.declared.Polarity.{Polarity}
 use Rattle.spacing.specs.Spacing.{N, L, M, planOf}
 use Rattle.spacing.specs.declared.Choice.{Choice}
 use Rattle.spacing.specs.declared.Parameters.{Parameters}
 use Rattle.inventory.specs.Index.{entriesOf, stride, ranksOf, kindOf, entryOf}
-use Rattle.inventory.specs.Read.{cellAt, kindAt, startAt, quantumAt, nearBy, placeAt, numberAt, decode}
-use Rattle.inventory.specs.declared.SpanType.the-variants.{U16}
-use Rattle.inventory.specs.declared.Summary.{Summary}
-
--- the bit of rank r: the selected position with exactly r others before it
-abbrev pub bitOf : List ℕ → ℕ → Polarity → ℕ → ℕ
-bitOf ws len pol = select (selected pol ws len) len
+use Rattle.read_inventory.specs.Read.{cellAt, kindAt, startAt, quantumAt, placeAt, numberAt, hintAt}
+use Rattle.inventory.specs.Shape.{nearBy}
+use Rattle.inventory.specs.declared.shape.SpanType.the-variants.{U16}
+use Rattle.inventory.specs.declared.summary.Summary.{Summary}
 
 -- position p is the bit of rank r: below len, selected, with exactly r selected positions before it (Vigna's select)
 pub record Bit (ws : List ℕ) (len : ℕ) (pol : Polarity) (r p : ℕ) : Type 0 where
@@ -30,7 +26,7 @@ pub record Bit (ws : List ℕ) (len : ℕ) (pol : Polarity) (r p : ℕ) : Type 0
   pub before : rank (selected pol ws len) p ≡ r
 
 -- entry e holds rank r
-pub record Holds (p : Parameters) (e r : ℕ) : Type 0 where
+pub record EntryHolds (p : Parameters) (e r : ℕ) : Type 0 where
   pub from : e * 2 ^ L p ≤ r
   pub to : r < min ((e + 1) * 2 ^ L p) (N p)
 
@@ -67,7 +63,7 @@ module _ (f : ℕ → Bool) (pos : ℕ → ℕ) (p : Parameters) (t : Summary) (
   k = s / 2 ^ qOf pos p e
 
   pub record Met : Type 0 where
-    pub mark : decode t inv sp r ≡ answer (record { mark = pos (markRank pos p e k); rank = markRank pos p e k })
+    pub mark : hintAt t inv sp r ≡ answer (record { mark = pos (markRank pos p e k); rank = markRank pos p e k })
     pub from : pos (markRank pos p e k) ≤ pos r
     pub next : nextRank pos p e k < N p → pos r < pos (nextRank pos p e k)
     pub passed : rank f (pos r) ≡ rank f (pos (markRank pos p e k)) + s % 2 ^ qOf pos p e
@@ -92,11 +88,11 @@ module _ (ws : List ℕ) (len : ℕ) (pol : Polarity) (choice : Choice) (t : Sum
     -- each rank below N has its bit: `select` is 0 where there is none
     pub bits : (r : ℕ) → r < N p → Bit ws len pol r (pos r)
     -- each rank lies in exactly one entry
-    pub held : (r : ℕ) → r < N p → (e : ℕ) × (e < entriesOf p) × Holds p e r
-    pub alone : (r d e : ℕ) → Holds p d r → Holds p e r → d ≡ e
+    pub held : (r : ℕ) → r < N p → (e : ℕ) × (e < entriesOf p) × EntryHolds p e r
+    pub alone : (r d e : ℕ) → EntryHolds p d r → EntryHolds p e r → d ≡ e
     -- every mark read is the bit of its rank; start, kind and q as read are those reckoned
     pub marked : (e k : ℕ) → e < entriesOf p → k < marksOf pos p e
-        → decode t inv sp (markRank pos p e k)
+        → hintAt t inv sp (markRank pos p e k)
         ≡ answer (record { mark = pos (markRank pos p e k); rank = markRank pos p e k })
     pub between : (e k : ℕ) → e < entriesOf p → k + 1 < marksOf pos p e
         → rank f (pos (markRank pos p e (k + 1)))

@@ -1,28 +1,31 @@
--- The cut to 32 bits alters no answer.
+-- The cut to 32 bits alters no answer: a logarithm that it alters was over 63, and stays so.
 use mathlib.Core.Bool.{Bool, true, false, cond, _&&_, _||_}
-use mathlib.Core.List.{List}
+use mathlib.Core.List.{List, _++_}
 use mathlib.Core.Logic.{_⊎_, ⊎-elim, inl, inr}
-use mathlib.Core.Path.{_≡_, refl, sym, ap, _∙_}
-use Prim.Native.Nat.{ℕ, _-_, _≤_, _<_}
+use mathlib.Core.Path.{_≡_, refl, sym, ap, _∙_, fun-ext}
+use Prim.Native.Nat.{ℕ, _-_, _^_, _≤_, _<_}
 use native.Mathlib.Omega.{arith}
-use lib.Dec.{eqb, ltb}
+use lib.Dec.{eqb}
 use lib.Ieee.{Float}
 use lib.ListN.{length, getD}
 use borrow.Author.Tests.{lt-ltb, ne-eqb}
-use Rattle.rank_sel.specs.Outcome.{Outcome, answer, refused, refuseIf, andThen}
+use Rattle.rank_sel.specs.Outcome.{Outcome, answer, refused, refuseIf, Conditions, refuseBy, andThen}
 use Rattle.rank_sel.proofs.Numbers.{lt-or-le}
-use Rattle.bit_record.specs.Record.{numSelected, lenTooLarge, tooFewWords}
+use Rattle.bit_record.specs.Record.{lenTooLarge, tooFewWords, countOf}
 use Rattle.bit_record.specs.declared.Polarity.{Polarity}
-use Rattle.spacing.specs.Spacing.{L, M, S, fixed, power, rule, chosenPlan, planOf}
+use Rattle.spacing.specs.Spacing.{N, L, M, S, fixed, power, rule, maxLog2Words, chosenPlan, planOf}
 use Rattle.spacing.specs.declared.Choice.{Choice}
 use Rattle.spacing.specs.declared.Choice.the-variants.{Default, Span, Power, Overhead, Fixed}
 use Rattle.spacing.specs.declared.Parameters.{Parameters}
-use Rattle.inventory.specs.Read.{decode, unlawful, tested, rankTooLarge, positionOf, dwellBy, selectOf, hintOf, dwellOf, subinventoryOf}
-use Rattle.inventory.specs.declared.Summary.{Summary}
-use Rattle.build_inventory.specs.Build.{fitted, measured, sizeOf, buildOf, samePlan, sameSummary, checkOf}
+use Rattle.inventory.specs.Lawful.{unlawful}
+use Rattle.inventory.specs.declared.summary.Summary.{Summary}
+use Rattle.build_inventory.specs.Build.{fitted, sizeOf, buildFrom, buildOf, samePlan, sameSummary, checkOf}
 use Rattle.build_inventory.specs.Compare.{sameIndex}
 use Rattle.build_inventory.specs.Positions.{posIn}
 use Rattle.build_inventory.proofs.Outcomes.{admission}
+use Rattle.read_inventory.specs.Jump.{selectOf, hintOf, dwellAt, dwellOf, storeOf, subinventoryOf}
+use Rattle.read_inventory.specs.Read.{hintAt, positionOf}
+use Rattle.read_inventory.specs.Tests.{ofIndex, ofRank, ofRanks}
 use Rattle.edge_index_c.specs.Codes.{cut, choiceBy, choiceAt, summaryBy, summaryAt}
 use Rattle.edge_index_c.specs.Logarithms.{SameChoice, SameAnswers}
 
@@ -63,27 +66,28 @@ module _ (pol : Polarity) (len num : ℕ) where
 module _ (kind value : ℕ) (percentage : Float) (log2 : ℕ) where
   plan-cut : (ws : List ℕ) (len : ℕ) (pol : Polarity) → planOf ws len pol (choiceAt kind value percentage log2) ≡ planOf ws len pol (choiceBy same kind value percentage log2)
   unfolding planOf
-  plan-cut ws len pol = rw (chosen-cut pol len (numSelected pol ws len) kind value percentage log2)
+  plan-cut ws len pol = ap (andThen (countOf ws len pol)) (fun-ext λ num. chosen-cut pol len num kind value percentage log2)
 
-  measured-cut : (ws : List ℕ) (len : ℕ) (pol : Polarity) (most : ℕ) → measured ws len pol (choiceAt kind value percentage log2) most ≡ measured ws len pol (choiceBy same kind value percentage log2) most
-  unfolding measured
-  measured-cut ws len pol most = ap (λ (o : Outcome Parameters). andThen o (λ p. fitted ws p most)) (plan-cut ws len pol)
+  -- what follows a plan
+  then-cut : {A : Type 0} (ws : List ℕ) (len : ℕ) (pol : Polarity) (go : Parameters → Outcome A)
+      → andThen (planOf ws len pol (choiceAt kind value percentage log2)) go ≡ andThen (planOf ws len pol (choiceBy same kind value percentage log2)) go
+  then-cut {A} ws len pol go = ap (λ (o : Outcome Parameters). andThen o go) (plan-cut ws len pol)
 
   build-cut : (ws : List ℕ) (len : ℕ) (pol : Polarity) (cells spill : ℕ) → buildOf ws len pol (choiceAt kind value percentage log2) cells spill ≡ buildOf ws len pol (choiceBy same kind value percentage log2) cells spill
   unfolding buildOf
-  build-cut ws len pol cells spill = rw (measured-cut ws len pol cells)
+  build-cut ws len pol cells spill = then-cut ws len pol (λ p. buildFrom ws p cells spill)
 
   pub choice-cut : SameChoice (choiceAt kind value percentage log2) (choiceBy same kind value percentage log2)
   unfolding sizeOf checkOf
   choice-cut = record {
     plan = plan-cut;
-    size = λ ws len pol. rw (measured-cut ws len pol 18446744073709551615);
+    size = λ ws len pol. then-cut ws len pol (λ p. fitted ws p (2 ^ 64 - 1));
     build = build-cut;
     check = λ ws len pol t inv sp. rw (build-cut ws len pol (length inv) (length sp));
   }
 
 -- ---- a summary
--- one of the three is over 63; M may be no more than 53
+-- one of the three is over 63, and so M over the largest too
 Over : Summary → Type 0
 Over t = (63 < L (t .plan)) ⊎ ((63 < M (t .plan)) ⊎ (63 < S (t .plan)))
 
@@ -98,13 +102,13 @@ and-false false = refl
 over-unlawful : (t : Summary) → Over t → unlawful t ≡ true
 unfolding unlawful Over
 over-unlawful t o = ⊎-elim (λ (h : 63 < L (t .plan)). large h)
-    (⊎-elim (λ (h : 63 < M (t .plan)). simp (lt-ltb 53 (M (t .plan)) (omega arith), or-true))
+    (⊎-elim (λ (h : 63 < M (t .plan)). simp (lt-ltb maxLog2Words (M (t .plan)) (omega arith), or-true))
     (λ (h : 63 < S (t .plan)). ⊎-elim (λ (l : L (t .plan) < 64). simp (ne-eqb (S (t .plan)) (L (t .plan) - M (t .plan) - 2) (λ e. omega arith), or-true)) (λ (l : 64 ≤ L (t .plan)). large (omega arith)) (lt-or-le (L (t .plan)) 64))) o
   where
     large : 63 < L (t .plan) → unlawful t ≡ true
     large h = simp (lt-ltb 63 (L (t .plan)) h, or-true)
 
-over-differs : (t u : Summary) → Over t → L (u .plan) ≤ 63 → M (u .plan) ≤ 53 → S (u .plan) ≤ 63 → sameSummary t u ≡ false
+over-differs : (t u : Summary) → Over t → L (u .plan) ≤ 63 → M (u .plan) ≤ maxLog2Words → S (u .plan) ≤ 63 → sameSummary t u ≡ false
 unfolding sameSummary samePlan Over
 over-differs t u o l m s = ⊎-elim (λ (h : 63 < L (t .plan)). simp (ne-eqb (L (t .plan)) (L (u .plan)) (λ e. omega arith), and-false))
     (⊎-elim (λ (h : 63 < M (t .plan)). simp (ne-eqb (M (t .plan)) (M (u .plan)) (λ e. omega arith), and-false))
@@ -114,9 +118,10 @@ over-differs t u o l m s = ⊎-elim (λ (h : 63 < L (t .plan)). simp (ne-eqb (L 
 refusal-of : List ℕ → ℕ → ℕ
 refusal-of ws len = cond (lenTooLarge len) 1 (cond (tooFewWords ws len) 2 9)
 
-unlawful-refused : {A : Type 0} (ws : List ℕ) (t : Summary) (inv sp : List ℕ) (rest : Outcome A) → unlawful t ≡ true → tested ws t inv sp rest ≡ refused (refusal-of ws (t .plan .len))
-unfolding tested refusal-of
-unlawful-refused {A} ws t inv sp rest e = rw e (go (lenTooLarge (t .plan .len)) (tooFewWords ws (t .plan .len)))
+unlawful-refused : {A : Type 0} (ws : List ℕ) (t : Summary) (inv sp : List ℕ) (cs : Conditions) (rest : Outcome A) → unlawful t ≡ true
+    → refuseBy (ofIndex ws t inv sp ++ cs) rest ≡ refused (refusal-of ws (t .plan .len))
+unfolding refusal-of
+unlawful-refused {A} ws t inv sp cs rest e = rw e (go (lenTooLarge (t .plan .len)) (tooFewWords ws (t .plan .len)))
   where
     go : (a b : Bool) → refuseIf {A = A} a 1 (refuseIf b 2 (refused 9)) ≡ refused (cond a 1 (cond b 2 9))
     go true b = refl
@@ -129,17 +134,24 @@ data Alike (t u : Summary) : Type 0 where
   both : t .plan .len ≡ u .plan .len → Over t → Over u → Alike t u
 
 module _ {t u : Summary} where
-  tests-alike : {A : Type 0} → Alike t u → (ws inv sp : List ℕ) (rest : Summary → Outcome A) → tested ws t inv sp (rest t) ≡ tested ws u inv sp (rest u)
-  tests-alike (equal e) ws inv sp rest = ap (λ (z : Summary). tested ws z inv sp (rest z)) e
-  tests-alike (both e o p) ws inv sp rest =
-      unlawful-refused ws t inv sp (rest t) (over-unlawful t o) ∙ ap (λ (n : ℕ). refused (refusal-of ws n)) e ∙ sym (unlawful-refused ws u inv sp (rest u) (over-unlawful u p))
+  tests-alike : {A : Type 0} → Alike t u → (ws inv sp : List ℕ) (cs : Summary → Conditions) (rest : Summary → Outcome A)
+      → refuseBy (ofIndex ws t inv sp ++ cs t) (rest t) ≡ refuseBy (ofIndex ws u inv sp ++ cs u) (rest u)
+  tests-alike (equal e) ws inv sp cs rest = ap (λ (z : Summary). refuseBy (ofIndex ws z inv sp ++ cs z) (rest z)) e
+  tests-alike (both e o p) ws inv sp cs rest =
+      unlawful-refused ws t inv sp (cs t) (rest t) (over-unlawful t o)
+      ∙ ap (λ (n : ℕ). refused (refusal-of ws n)) e
+      ∙ sym (unlawful-refused ws u inv sp (cs u) (rest u) (over-unlawful u p))
 
   store-alike : Alike t u → (ws inv sp : List ℕ) (r : ℕ) → subinventoryOf ws t inv sp r ≡ subinventoryOf ws u inv sp r
-  unfolding subinventoryOf hintOf
+  unfolding subinventoryOf storeOf hintOf
   store-alike (equal e) ws inv sp r = ap (λ (z : Summary). subinventoryOf ws z inv sp r) e
-  store-alike (both e o p) ws inv sp r = rw (unlawful-refused ws t inv sp (refuseIf (rankTooLarge t r) 8 (decode t inv sp r)) (over-unlawful t o), unlawful-refused ws u inv sp (refuseIf (rankTooLarge u r) 8 (decode u inv sp r)) (over-unlawful u p))
+  store-alike (both e o p) ws inv sp r =
+      rw (
+        unlawful-refused ws t inv sp (ofRank (N (t .plan)) r) (hintAt t inv sp r) (over-unlawful t o),
+        unlawful-refused ws u inv sp (ofRank (N (u .plan)) r) (hintAt u inv sp r) (over-unlawful u p),
+      )
 
-  verdict-alike : Alike t u → (b : Summary → Bool) (o : Outcome Summary) → ((v : Summary) → o ≡ answer v → (L (v .plan) ≤ 63) × (M (v .plan) ≤ 53) × (S (v .plan) ≤ 63))
+  verdict-alike : Alike t u → (b : Summary → Bool) (o : Outcome Summary) → ((v : Summary) → o ≡ answer v → (L (v .plan) ≤ 63) × (M (v .plan) ≤ maxLog2Words) × (S (v .plan) ≤ 63))
       → andThen o (λ v. answer (sameSummary t v && b v)) ≡ andThen o (λ v. answer (sameSummary u v && b v))
   verdict-alike (equal e) b o small = ap (λ (z : Summary). andThen o (λ v. answer (sameSummary z v && b v))) e
   verdict-alike (both e x y) b (answer v) small =
@@ -152,11 +164,10 @@ module _ {t u : Summary} where
   answers-alike w = record {
     check = λ ws len pol c inv sp. verdict-alike w (λ v. sameIndex (posIn ws (v .plan)) (v .plan) inv sp) (buildOf ws len pol c (length inv) (length sp))
         (λ v e. let a = admission ws len pol c (length inv) (length sp) v e .plans in (a .smallL, a .smallM, omega (arith, a .spaced, a .smallL)));
-    select = λ ws inv sp r. tests-alike w ws inv sp (λ z. refuseIf (rankTooLarge z r) 8 (positionOf ws z inv sp r));
-    hint = λ ws inv sp r. tests-alike w ws inv sp (λ z. refuseIf (rankTooLarge z r) 8 (decode z inv sp r));
+    select = λ ws inv sp r. tests-alike w ws inv sp (λ z. ofRank (N (z .plan)) r) (λ z. positionOf ws z inv sp r);
+    hint = λ ws inv sp r. tests-alike w ws inv sp (λ z. ofRank (N (z .plan)) r) (λ z. hintAt z inv sp r);
     store = store-alike w;
-    dwell = λ ws inv sp a b. tests-alike w ws inv sp
-        (λ z. refuseIf (rankTooLarge z a) 8 (refuseIf (rankTooLarge z b) 8 (refuseIf (ltb b a) 11 (andThen (positionOf ws z inv sp a) (λ p. andThen (positionOf ws z inv sp b) (λ o. dwellBy p o))))));
+    dwell = λ ws inv sp a b. tests-alike w ws inv sp (λ z. ofRanks (N (z .plan)) a b) (λ z. dwellAt ws z inv sp a b);
   }
 
 pub summary-cut : (s : List ℕ) → SameAnswers (summaryAt s) (summaryBy same s)

@@ -2,31 +2,16 @@
 use mathlib.Core.Bool.{Bool, true, false, not}
 use mathlib.Core.List.{List}
 use mathlib.Core.Path.{_≡_, sym, ap, _∙_}
-use Prim.Native.Nat.{ℕ, _≤_}
-use native.Mathlib.Omega.{arith}
+use Prim.Native.Nat.{ℕ}
 use borrow.Author.Tests.{not-true, not-false}
 use Rattle.rank_sel.specs.Outcome.{Outcome, answer, refused, numberOf, andThen}
 use Rattle.rank_sel.specs.declared.Refusal.{Refusal}
-use Rattle.rank_sel.specs.declared.Refusal.the-variants.{LenTooLarge, TooFewWords, OnesPerInventoryTooLarge, WordsPerSubinventoryTooLarge, OverheadNotPositive, InventoryTooShort, SpillTooShort, RankTooLarge, SummaryUnlawful, CellsUnlawful, RanksFall}
-use Rattle.inventory.specs.declared.Summary.{Summary}
+use Rattle.inventory.specs.declared.summary.Summary.{Summary}
 use Rattle.build_inventory.specs.Build.{BuiltAs, built, inventoryAfter, spillAfter}
 use Rattle.build_inventory.specs.declared.Built.{Built}
 use Rattle.build_inventory.specs.declared.Built.the-variants as Built·v
 use Rattle.edge_index_c.specs.Calls.{Returned, BuiltC, statusOf, outOf}
 use Rattle.edge_index_c.specs.Codes.{known, numbersOf}
-
-pub number-small : (r : Refusal) → numberOf r ≤ 11
-number-small LenTooLarge = omega arith
-number-small TooFewWords = omega arith
-number-small OnesPerInventoryTooLarge = omega arith
-number-small WordsPerSubinventoryTooLarge = omega arith
-number-small OverheadNotPositive = omega arith
-number-small InventoryTooShort = omega arith
-number-small SpillTooShort = omega arith
-number-small RankTooLarge = omega arith
-number-small SummaryUnlawful = omega arith
-number-small CellsUnlawful = omega arith
-number-small RanksFall = omega arith
 
 pub ap2 : {A B C : Type 0} (f : A → B → C) {a b : A} {p q : B} → a ≡ b → p ≡ q → f a p ≡ f b q
 ap2 f {a} {b} {p} {q} e g = ap (λ x. f x p) e ∙ ap (f b) g

@@ -10,8 +10,9 @@ use lib.ListN.{length, getD}
 use Rattle.rank_sel.specs.Outcome.{Outcome, answer, refused, refuseIf, andThen}
 use Rattle.bit_record.specs.Record.{countOf}
 use Rattle.spacing.specs.Spacing.{planOf}
-use Rattle.inventory.specs.Read.{Hint, Part, ofInventory, ofSpill, empty, selectOf, hintOf, dwellOf, subinventoryOf}
-use Rattle.inventory.specs.declared.Summary.{Summary}
+use Rattle.read_inventory.specs.Read.{Hint}
+use Rattle.read_inventory.specs.Jump.{Part, ofInventory, ofSpill, empty, selectOf, hintOf, dwellOf, storeOf}
+use Rattle.inventory.specs.declared.summary.Summary.{Summary}
 use Rattle.build_inventory.specs.Build.{Sizes, sizeOf, buildOf, checkOf, inventoryAfter, spillAfter}
 use Rattle.edge_index_c.specs.Codes.{badCode, known, polarityAt, choiceAt, summaryAt, numbersOf, uncounted}
 
@@ -106,7 +107,7 @@ partNumbers empty = cellsAs 0 0 0
 
 unfoldable pub subinventoryC : List ℕ → List ℕ → List ℕ → List ℕ → ℕ → Outcome Cells
 subinventoryC ws s inv sp r =
-    ifRead s (andThen (hintOf ws (summaryAt s) inv sp r) (λ h. answer (partNumbers (subinventoryOf ws (summaryAt s) inv sp r))))
+    ifRead s (andThen (storeOf ws (summaryAt s) inv sp r) (λ p. answer (partNumbers p)))
 
 -- one of the two slices, a cell of it or more, and none past its end
 pub record Named (inv sp : List ℕ) (c : Cells) : Type 0 where

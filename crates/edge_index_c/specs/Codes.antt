@@ -11,7 +11,7 @@ use Rattle.spacing.specs.Spacing.{N, L, M, S}
 use Rattle.spacing.specs.declared.Choice.{Choice}
 use Rattle.spacing.specs.declared.Choice.the-variants.{Default, Span, Power, Overhead, Fixed}
 use Rattle.spacing.specs.declared.Parameters.{Parameters}
-use Rattle.inventory.specs.declared.Summary.{Summary}
+use Rattle.inventory.specs.declared.summary.Summary.{Summary}
 
 -- what a call returns for a polarity or a kind that is none
 abbrev pub badCode : ℕ

@@ -6,8 +6,8 @@ use Prim.Native.Nat.{ℕ}
 use Rattle.bit_record.specs.declared.Polarity.{Polarity}
 use Rattle.spacing.specs.Spacing.{planOf}
 use Rattle.spacing.specs.declared.Choice.{Choice}
-use Rattle.inventory.specs.Read.{selectOf, hintOf, dwellOf, subinventoryOf}
-use Rattle.inventory.specs.declared.Summary.{Summary}
+use Rattle.read_inventory.specs.Jump.{selectOf, hintOf, dwellOf, subinventoryOf}
+use Rattle.inventory.specs.declared.summary.Summary.{Summary}
 use Rattle.build_inventory.specs.Build.{sizeOf, buildOf, checkOf}
 
 pub record SameChoice (c d : Choice) : Type 0 where

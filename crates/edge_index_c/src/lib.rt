@@ -4,9 +4,8 @@ ghost use mathlib.Core.Path.{_≡_};
 ghost use lib.ListN.{length};
 ghost use Rattle.rank_sel.specs.Outcome.{answered, numberOf};
 ghost use Rattle.select_in_word.specs.Select.{selectInWord};
-ghost use Rattle.inventory.specs.Read.{partOf};
 ghost use Rattle.build_inventory.specs.Build.{checked};
-ghost use Rattle.edge_index_c.specs.Calls.{BuiltC, Returned, buildC, cellsAs, checkC, countC, dwellC, hintAs, hintC, partNumbers, planC, selectC, sizeC, sizesAs, subinventoryC, verdictOf};
+ghost use Rattle.edge_index_c.specs.Calls.{BuiltC, Returned, buildC, cellsAs, checkC, countC, dwellC, hintAs, hintC, planC, selectC, sizeC, sizesAs, subinventoryC, verdictOf};
 ghost use Rattle.edge_index_c.specs.Codes.{choiceAt, cut as cutTo32, known, numbersOf, polarityAt, polarityCode, summaryAt};
 use edge_index::Answer;
 use edge_index::Built;
@@ -329,35 +328,6 @@ pub extern "C" fn edge_index_hint(
     }
 }
 
-// A part as three numbers.
-struct PartNumbers {
-    slice: u64,
-    first: u64,
-    cells: u64,
-}
-
-fn numbered(part: CellPart) -> PartNumbers
-    ensures { λ r. ⌜ cellsAs (r .slice) (r .first) (r .cells) ≡ partNumbers (partOf part) ⌝ }
-{
-    match part {
-        CellPart::Inventory(first, cells) => PartNumbers {
-            slice: 1,
-            first,
-            cells,
-        },
-        CellPart::Spill(first, cells) => PartNumbers {
-            slice: 2,
-            first,
-            cells,
-        },
-        CellPart::Empty => PartNumbers {
-            slice: 0,
-            first: 0,
-            cells: 0,
-        },
-    }
-}
-
 #[no_mangle]
 pub extern "C" fn edge_index_subinventory(
     words: &[u64],
@@ -374,16 +344,20 @@ pub extern "C" fn edge_index_subinventory(
     if summary[0] > 1 {
         return BAD_CODE;
     }
-    let read = summary_at(summary);
-    match edge_index::hint(words, read, inventory, spill, rank) {
-        Hinted::Mark(_, _) => {
-            let part = numbered(edge_index::subinventory_part(words, read, inventory, spill, rank));
-            *slice = part.slice;
-            *first = part.first;
-            *cells = part.cells;
+    match edge_index::subinventory_part(words, summary_at(summary), inventory, spill, rank) {
+        CellPart::Inventory(own, n) => {
+            *slice = 1;
+            *first = own;
+            *cells = n;
             0
         }
-        Hinted::Refused(refusal) => status(refusal),
+        CellPart::Spill(from, spilled) => {
+            *slice = 2;
+            *first = from;
+            *cells = spilled;
+            0
+        }
+        CellPart::Refused(refusal) => status(refusal),
     }
 }
 

@@ -1,6 +1,7 @@
 // Runs find_edge on each line of the file `cases`, and prints what it writes. Error lines go to standard output here,
 // where the gate compares them. The buffers are the program's, but for the spill: one cell, so that refusal 7 comes.
-use edge_index::Refusal;
+use edge_index::REFUSAL_COUNT;
+use edge_index::REFUSALS;
 use find_edge_lib::find_edge;
 use find_edge_lib::refused;
 use libc::STDOUT_FILENO;
@@ -38,18 +39,13 @@ fn run_cases(text: &mut [u8], words: &mut [u64], inventory: &mut [u64], spill: &
     }
 }
 
+// Every row of the table of refusals.
 fn refusals() {
-    refused(STDOUT_FILENO, Refusal::LenTooLarge);
-    refused(STDOUT_FILENO, Refusal::TooFewWords);
-    refused(STDOUT_FILENO, Refusal::OnesPerInventoryTooLarge);
-    refused(STDOUT_FILENO, Refusal::WordsPerSubinventoryTooLarge);
-    refused(STDOUT_FILENO, Refusal::OverheadNotPositive);
-    refused(STDOUT_FILENO, Refusal::InventoryTooShort);
-    refused(STDOUT_FILENO, Refusal::SpillTooShort);
-    refused(STDOUT_FILENO, Refusal::RankTooLarge);
-    refused(STDOUT_FILENO, Refusal::SummaryUnlawful);
-    refused(STDOUT_FILENO, Refusal::CellsUnlawful);
-    refused(STDOUT_FILENO, Refusal::RanksFall);
+    let mut i: usize = 0;
+    while i < REFUSAL_COUNT {
+        refused(STDOUT_FILENO, REFUSALS[i]);
+        i += 1;
+    }
 }
 
 fn main() {

@@ -1,4 +1,5 @@
 // Every line that the program writes. A line goes to the descriptor that the caller names.
+use edge_index::MAX_LOG2_WORDS_PER_SUBINVENTORY;
 use edge_index::Parameters;
 use edge_index::Polarity;
 use edge_index::Refusal;
@@ -159,10 +160,13 @@ fn say_meaning(fd: i32, refusal: Refusal) {
             b"there are fewer words than the samples need: give fewer samples",
         ),
         Refusal::OnesPerInventoryTooLarge => say(fd, b"L is over 63: give --power at most 63"),
-        Refusal::WordsPerSubinventoryTooLarge => say(
-            fd,
-            b"M, or its maximum, is over 53: give a maximum of at most 53",
-        ),
+        Refusal::WordsPerSubinventoryTooLarge => {
+            let most = MAX_LOG2_WORDS_PER_SUBINVENTORY as u64;
+            say(fd, b"M, or its maximum, is over ");
+            say_number(fd, most);
+            say(fd, b": give a maximum of at most ");
+            say_number(fd, most)
+        }
         Refusal::OverheadNotPositive => say(
             fd,
             b"the percentage is not finite or not above 0: give --overhead above 0, as 10",

@@ -1,21 +1,46 @@
--- The tests of a summary and of lent cells, and what passing them shows.
-use mathlib.Core.Bool.{Bool, true, false, not}
+-- The test of a summary: what passing it shows, and how the inventory count is held to its rule without being reckoned.
+use mathlib.Core.Bool.{Bool, true, false, false≢true, _||_}
 use mathlib.Core.Path.{_≡_, refl, sym, ap, _∙_}
 use Prim.Native.Nat.{ℕ, _+_, _-_, _*_, _/_, _%_, _^_, _≤_, _<_}
 use native.Mathlib.Nat.{mul-div-left, div-mul-le-self, mod-eq-of-lt}
 use native.Mathlib.Omega.{arith}
 use lib.Dec.{eqb}
-use borrow.Author.Tests.{eqb-true, eqb-false, eq-eqb, ne-eqb}
-use Rattle.inventory.specs.Read.{unlawful}
-use Rattle.inventory.specs.declared.Summary.{Summary}
+use borrow.Author.Tests.{ltb-false, le-ltb, eqb-true, eqb-false, eq-eqb, ne-eqb, not-false}
+use Rattle.spacing.specs.Spacing.{N, L, M, S, maxLog2Words}
+use Rattle.inventory.specs.Index.{inventoryLenOf}
+use Rattle.inventory.specs.Lawful.{unlawful, Lawful}
+use Rattle.inventory.specs.declared.summary.Summary.{Summary}
 
-pub not-not : (b : Bool) → not (not b) ≡ b
-not-not true = refl
-not-not false = refl
+-- ---- both ways between the condition and the rules
+or-false : (a b : Bool) → a || b ≡ false → (a ≡ false) × (b ≡ false)
+or-false true b e = absurd (false≢true (sym e))
+or-false false b e = (refl, e)
 
--- what a test by a call says of the condition that it denies
-pub told : (t : Summary) (r b : Bool) → r ≡ not (unlawful t) → not r ≡ b → unlawful t ≡ b
-told t r b e h = sym (not-not (unlawful t)) ∙ sym (ap not e) ∙ h
+pub lawful : (t : Summary) → unlawful t ≡ false → Lawful t
+unfolding unlawful
+lawful t e =
+    let counted = or-false _ _ e in
+    let spaced = or-false _ _ (counted .0) in
+    let smallM = or-false _ _ (spaced .0) in
+    let smallL = or-false _ _ (smallM .0) in
+    record {
+      few = ltb-false _ _ (smallL .0);
+      smallL = ltb-false _ _ (smallL .1);
+      smallM = ltb-false _ _ (smallM .1);
+      spaced = eqb-true _ _ (not-false _ (spaced .1));
+      counted = eqb-true _ _ (not-false _ (counted .1));
+    }
+
+pub lawful-none : (t : Summary) → Lawful t → unlawful t ≡ false
+unfolding unlawful
+lawful-none t w =
+    rw (
+      le-ltb (t .plan .len) (N (t .plan)) (w .few),
+      le-ltb 63 (L (t .plan)) (w .smallL),
+      le-ltb maxLog2Words (M (t .plan)) (w .smallM),
+      eq-eqb (S (t .plan)) (L (t .plan) - M (t .plan) - 2) (w .spaced),
+      eq-eqb (t .«inventory_len») (inventoryLenOf (t .plan)) (w .counted),
+    )
 
 -- ---- n is e * (m + 1) + 1, tested on what is left of n without e and 1
 module _ (n e m : ℕ) where

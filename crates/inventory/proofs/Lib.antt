@@ -1,14 +1,10 @@
 pub mod Lanes
+pub mod Shapes
 pub mod Marks
 pub mod Index
 pub mod Ranks
+pub mod Entries
 pub mod Sums
 pub mod Lawful
-pub mod Reading
-pub mod Decoding
-pub mod Answers
-pub mod Parts
 pub mod Unpack
 pub mod Placed
-pub mod ReadBack
-pub mod PartSize

@@ -2,8 +2,8 @@
 use mathlib.Core.Path.{_≡_, refl, ap, _∙_}
 use mathlib.Core.Logic.{⊎-elim}
 use mathlib.Core.Bool.{Bool, true, false, cond}
-use mathlib.Core.List.{[], _∷_}
-use Prim.Native.Nat.{ℕ, zero, suc, _+_, _-_, _*_, _/_, _^_, _≤_, _<_, min}
+use mathlib.Core.List.{List, [], _∷_}
+use Prim.Native.Nat.{ℕ, zero, suc, _+_, _-_, _*_, _^_, _≤_, _<_, min}
 use native.Mathlib.Nat.{zero-mul}
 use native.Mathlib.Omega.{arith}
 use lib.Dec.{leb}
@@ -13,15 +13,18 @@ use borrow.Author.Tests.{lt-ltb, le-ltb, leb-true}
 use Rattle.rank_sel.specs.Numbers.{ceilDiv}
 use Rattle.rank_sel.proofs.Ceil.{ceil-le, ceil-lt}
 use Rattle.rank_sel.proofs.Numbers.{lt-or-le}
-use Rattle.spacing.specs.Spacing.{N, L, M, S}
+use Rattle.bit_record.specs.Record.{bitOf}
+use Rattle.bit_record.proofs.Bits.{bits-rise, bit-below}
+use Rattle.spacing.specs.Spacing.{N, L, M, S, PlanOf}
 use Rattle.spacing.specs.declared.Parameters.{Parameters}
 use Rattle.inventory.specs.Index.{ranksOf, entryFrom, mark, lane, stream, ownCells, spillCells, bound, startOf, entryOf}
-use Rattle.inventory.specs.Shape.{fromSpan, log2OnesPerSub32, log2Quantum, spilledBy, shapeOf}
-use Rattle.inventory.specs.declared.Entry.{Entry}
-use Rattle.inventory.specs.declared.Shape.{Shape}
-use Rattle.inventory.specs.declared.SpanType.{SpanType}
-use Rattle.inventory.specs.declared.SpanType.the-variants.{U16, U32, U64}
+use Rattle.inventory.specs.Shape.{fromSpan, log2OnesPerSub32, log2Quantum, spilledBy, shapeOf, Shaped}
+use Rattle.inventory.specs.declared.entry.Entry.{Entry}
+use Rattle.inventory.specs.declared.shape.Shape.{Shape}
+use Rattle.inventory.specs.declared.shape.SpanType.{SpanType}
+use Rattle.inventory.specs.declared.shape.SpanType.the-variants.{U16, U32, U64}
 use Rattle.inventory.proofs.Lanes.{turn-more, tab-length}
+use Rattle.inventory.proofs.Shapes.{shaped}
 
 -- ---- kinds
 -- a kind has room for the spans that it serves
@@ -52,49 +55,16 @@ spilled-le U16 h m = omega arith
 spilled-le U32 h m = omega (arith, ceil-le h 2 (omega arith))
 spilled-le U64 h m = omega arith
 
-heads-le : (kind : SpanType) (start : ℕ) → shapeOf kind start .heads ≤ 1
-heads-le U16 start = omega arith
-heads-le U32 start = omega arith
-heads-le U64 start = omega arith
-
--- what a shape promises of an entry from start to next
-record Shaped (s : Shape) (start next : ℕ) : Type 0 where
-  pub cell : s .width * s .lanes ≡ 64
-  pub few-lanes : s .lanes ≤ 4
-  pub heads : s .heads ≤ 1
-  pub from : s .from ≤ 1
+-- a shape serves an entry from start to next: the first cell has room for the tag, and a lane for each position
+record Serves (s : Shape) (start next : ℕ) : Type 0 where
   pub tagged : start + s .tag < 2 ^ 64
   pub low : s .base ≤ start
   pub fits : (m : ℕ) → start ≤ m → m < next → m - s .base < 2 ^ s .width
 
-shaped-by : (kind : SpanType) (start next : ℕ) → Room kind (next - start) → start < next → next < 2 ^ 62 → Shaped (shapeOf kind start) start next
-shaped-by U16 start next r l h = record {
-  cell = refl;
-  few-lanes = omega arith;
-  heads = heads-le U16 start;
-  from = omega arith;
-  tagged = omega arith;
-  low = omega arith;
-  fits = λ m a b. omega arith;
-}
-shaped-by U32 start next r l h = record {
-  cell = refl;
-  few-lanes = omega arith;
-  heads = heads-le U32 start;
-  from = omega arith;
-  tagged = omega arith;
-  low = omega arith;
-  fits = λ m a b. omega arith;
-}
-shaped-by U64 start next r l h = record {
-  cell = refl;
-  few-lanes = omega arith;
-  heads = heads-le U64 start;
-  from = omega arith;
-  tagged = omega arith;
-  low = omega arith;
-  fits = λ m a b. omega arith;
-}
+serves : (kind : SpanType) (start next : ℕ) → Room kind (next - start) → start < next → next < 2 ^ 62 → Serves (shapeOf kind start) start next
+serves U16 start next r l h = record { tagged = omega arith; low = omega arith; fits = λ m a b. omega arith }
+serves U32 start next r l h = record { tagged = omega arith; low = omega arith; fits = λ m a b. omega arith }
+serves U64 start next r l h = record { tagged = omega arith; low = omega arith; fits = λ m a b. omega arith }
 
 -- ---- lanes
 module _ (pos : ℕ → ℕ) (x : Entry) where
@@ -111,19 +81,16 @@ module _ (pos : ℕ → ℕ) (x : Entry) where
   lane-past i h = rw (le-ltb i (x .marks) h)
 
 -- ---- what the stream of an entry's cells rests on
-pub record Marked (pos : ℕ → ℕ) (p : Parameters) (x : Entry) : Type 0 where
+pub record Streamable (pos : ℕ → ℕ) (p : Parameters) (x : Entry) : Type 0 where
+  pub shaped : Shaped (x .shape)
   pub close : x .«log2_quantum» < 64
   pub within : (k : ℕ) → k < x .marks → x .first + k * 2 ^ x .«log2_quantum» < N p
   pub low : (k : ℕ) → k < x .marks → x .shape .base ≤ mark pos x k
   pub small : (k : ℕ) → k < x .marks → mark pos x k - x .shape .base < 2 ^ x .shape .width
-  pub cell : x .shape .width * x .shape .lanes ≡ 64
-  pub few-lanes : x .shape .lanes ≤ 4
-  pub heads : x .shape .heads ≤ 1
-  pub from : x .shape .from ≤ 1
   pub begins : x .start ≡ pos (x .first)
   pub tagged : x .start + x .shape .tag < 2 ^ 64
 
-pub lane-lt : (pos : ℕ → ℕ) (p : Parameters) (x : Entry) → Marked pos p x → (i : ℕ) → lane pos x i < 2 ^ x .shape .width
+pub lane-lt : (pos : ℕ → ℕ) (p : Parameters) (x : Entry) → Streamable pos p x → (i : ℕ) → lane pos x i < 2 ^ x .shape .width
 lane-lt pos p x s i = ⊎-elim
     (λ (g : i < x .marks). rw (lane-in pos x i g) (s .small i g))
     (λ (g : x .marks ≤ i). rw (lane-past pos x i g) (pow-pos (x .shape .width)))
@@ -135,7 +102,17 @@ pub record Rising (pos : ℕ → ℕ) (p : Parameters) : Type 0 where
   pub below : (r : ℕ) → r < N p → pos r < p .len
   pub short : p .len < 2 ^ 62
   pub smallL : L p ≤ 63
-  pub spaced : S p ≤ L p
+  pub closer : S p ≤ L p
+
+-- the bits of a planned record
+pub rising : (ws : List ℕ) (p : Parameters) → PlanOf ws p → Rising (bitOf ws (p .len) (p .polarity)) p
+rising ws p h = record {
+  rises = λ r s l g. bits-rise ws (p .len) (p .polarity) r s l (omega (arith, h .num));
+  below = λ r g. bit-below ws (p .len) (p .polarity) r (omega (arith, h .num));
+  short = h .admitted .short;
+  smallL = h .smallL;
+  closer = omega (arith, h .spaced);
+}
 
 module _ (pos : ℕ → ℕ) (p : Parameters) where
   pub start-here : (e : ℕ) → e * 2 ^ L p < N p → startOf pos p e ≡ pos (e * 2 ^ L p)
@@ -152,7 +129,7 @@ module _ (pos : ℕ → ℕ) (p : Parameters) where
 
   pub few-heads : (e : ℕ) → entryOf pos p e .shape .heads ≤ 1
   unfolding entryOf entryFrom
-  few-heads e = heads-le (fromSpan (startOf pos p (e + 1) - startOf pos p e)) (startOf pos p e)
+  few-heads e = shaped (fromSpan (startOf pos p (e + 1) - startOf pos p e)) (startOf pos p e) .heads
 
   -- an entry spills no more cells than it may have ranks
   pub few-spilled : (e : ℕ) → entryOf pos p e .spilled ≤ 2 ^ L p
@@ -164,15 +141,15 @@ module _ (pos : ℕ → ℕ) (p : Parameters) where
       omega (arith, spilled-le (fromSpan span) (ceilDiv r (2 ^ q)) (M p), ceil-le r (2 ^ q) (pow-pos q))
 
   -- the fields as they are reckoned one by one
-  pub entry-made : (e first start next ranks : ℕ) (kind : SpanType) (q pq spilled : ℕ) (shape : Shape)
-      → first ≡ e * 2 ^ L p → start ≡ startOf pos p e → next ≡ startOf pos p (e + 1) → ranks ≡ min (2 ^ L p) (N p - e * 2 ^ L p)
-      → kind ≡ fromSpan (next - start) → q ≡ log2Quantum kind (next - start) (S p) → pq ≡ 2 ^ q
-      → shape ≡ shapeOf kind start → spilled ≡ spilledBy kind ((ranks + (pq - 1)) / 2 ^ q) (M p)
+  pub entry-made : (e first start next ranks : ℕ) (kind : SpanType) (q marks spilled : ℕ) (shape : Shape)
+      → first ≡ e * 2 ^ L p → start ≡ startOf pos p e → next ≡ startOf pos p (e + 1) → ranks ≡ ranksOf p e
+      → kind ≡ fromSpan (next - start) → q ≡ log2Quantum kind (next - start) (S p) → marks ≡ ceilDiv ranks (2 ^ q)
+      → shape ≡ shapeOf kind start → spilled ≡ spilledBy kind marks (M p)
       → _≡_ {A = Entry}
-      (record { first = first; start = start; next = next; «log2_quantum» = q; marks = (ranks + (pq - 1)) / 2 ^ q; spilled = spilled; shape = shape })
+      (record { first = first; start = start; next = next; «log2_quantum» = q; marks = marks; spilled = spilled; shape = shape })
       (entryOf pos p e)
-  unfolding entryOf entryFrom ranksOf
-  entry-made e first start next ranks kind q pq spilled shape ef es en er ek eq ep eh ed = rw (ed, eh, ep, eq, ek, er, en, es, ef)
+  unfolding entryOf entryFrom
+  entry-made e first start next ranks kind q marks spilled shape ef es en er ek eq em eh ed = rw (ed, eh, em, eq, ek, er, en, es, ef)
 
   module _ (h : Rising pos p) where
     pub bound-gt : (r s : ℕ) → r < s → r < N p → pos r < bound pos p s
@@ -193,9 +170,9 @@ module _ (pos : ℕ → ℕ) (p : Parameters) where
     from-start r zero l = let e : r + 0 ≡ r = omega arith in rw e (omega arith)
     from-start r (suc k) l = omega (arith, h .rises r (r + suc k) (omega arith) l)
 
-    pub entry-marked : (e : ℕ) → e * 2 ^ L p < N p → Marked pos p (entryOf pos p e)
+    pub entry-streamable : (e : ℕ) → e * 2 ^ L p < N p → Streamable pos p (entryOf pos p e)
     unfolding entryOf entryFrom ranksOf mark
-    entry-marked e l =
+    entry-streamable e l =
         let first = e * 2 ^ L p in
         let start = startOf pos p e in
         let next = startOf pos p (e + 1) in
@@ -209,16 +186,13 @@ module _ (pos : ℕ → ℕ) (p : Parameters) where
         let above : (k : ℕ) → k < ceilDiv ranks (2 ^ q) → start ≤ pos (first + k * 2 ^ q) = λ k g. omega (arith, from-start first (k * 2 ^ q) (omega (arith, inside k g))) in
         let below : (k : ℕ) → k < ceilDiv ranks (2 ^ q) → pos (first + k * 2 ^ q) < next =
         λ k g. omega (arith, bound-gt (first + k * 2 ^ q) (first + 2 ^ L p) (omega (arith, inside k g)) (omega (arith, inside k g))) in
-        let s = shaped-by kind start next (room-of (next - start)) (omega (arith, bound-gt first (first + 2 ^ L p) (omega arith) l)) (omega (arith, bound-small (first + 2 ^ L p))) in
+        let s = serves kind start next (room-of (next - start)) (omega (arith, bound-gt first (first + 2 ^ L p) (omega arith) l)) (omega (arith, bound-small (first + 2 ^ L p))) in
         record {
-          close = omega (arith, quantum-le kind (next - start) (S p), h .spaced, h .smallL);
+          shaped = shaped kind start;
+          close = omega (arith, quantum-le kind (next - start) (S p), h .closer, h .smallL);
           within = λ k g. omega (arith, inside k g);
           low = λ k g. omega (arith, s .low, above k g);
           small = λ k g. s .fits (pos (first + k * 2 ^ q)) (above k g) (below k g);
-          cell = s .cell;
-          few-lanes = s .few-lanes;
-          heads = s .heads;
-          from = s .from;
           begins = b;
           tagged = s .tagged;
         }

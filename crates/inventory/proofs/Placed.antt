@@ -11,7 +11,7 @@ use Rattle.rank_sel.proofs.Numbers.{lt-suc-cases}
 use Rattle.spacing.specs.Spacing.{M}
 use Rattle.spacing.specs.declared.Parameters.{Parameters}
 use Rattle.inventory.specs.Index.{entriesOf, stride, inventoryLenOf, packed, stream, ownCells, spillCells, startOf, entryOf, spillStart, inventoryTo, spillTo, inventoryOf, spillOf}
-use Rattle.inventory.specs.declared.Entry.{Entry}
+use Rattle.inventory.specs.declared.entry.Entry.{Entry}
 use Rattle.inventory.proofs.Lanes.{tab-at}
 use Rattle.inventory.proofs.Marks.{few-heads, heads-length, own-length}
 use Rattle.inventory.proofs.Index.{spillStart-more, spillStart-mono, inventory-length, spill-to-length}

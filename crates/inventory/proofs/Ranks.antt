@@ -26,6 +26,10 @@ module _ (p : Parameters) where
   unfolding ranksOf
   ranks-most e = omega arith
 
+  pub ranks-few : (e : ℕ) → ranksOf p e ≤ N p
+  unfolding ranksOf
+  ranks-few e = omega arith
+
   pub rank-entry : (r : ℕ) → r < N p → r / 2 ^ L p < entriesOf p
   unfolding entriesOf
   rank-entry r h = mark-among r (N p) (L p) h

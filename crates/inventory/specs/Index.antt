@@ -9,17 +9,20 @@ use Rattle.spacing.specs.Spacing.{N, L, M, S}
 use Rattle.spacing.specs.declared.Parameters.{Parameters}
 use Rattle.inventory.specs.Lanes.{pack, tabulate}
 use Rattle.inventory.specs.Shape.{fromSpan, log2Quantum, spilledBy, shapeOf}
-use Rattle.inventory.specs.declared.SpanType.{SpanType}
-use Rattle.inventory.specs.declared.Summary.{Summary}
-use Rattle.inventory.specs.declared.Entry.{Entry}
+use Rattle.inventory.specs.declared.shape.SpanType.{SpanType}
+use Rattle.inventory.specs.declared.summary.Summary.{Summary}
+use Rattle.inventory.specs.declared.entry.Entry.{Entry}
 
 -- ---- counts
 unfoldable pub entriesOf : Parameters → ℕ
 entriesOf p = ceilDiv (N p) (2 ^ L p)
 
--- the cells of one entry
+-- the cells of one entry: its first, and 2^M
+abbrev pub strideBy : ℕ → ℕ
+strideBy m = 2 ^ m + 1
+
 abbrev pub stride : Parameters → ℕ
-stride p = 2 ^ M p + 1
+stride p = strideBy (M p)
 
 -- the entries' cells and the closing one
 unfoldable pub inventoryLenOf : Parameters → ℕ

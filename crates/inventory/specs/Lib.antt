@@ -1,5 +1,4 @@
 pub mod Shape
 pub mod Lanes
 pub mod Index
-pub mod Read
-pub mod Steps
+pub mod Lawful

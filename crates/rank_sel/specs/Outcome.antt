@@ -1,11 +1,15 @@
 -- What a call answers: values, or the number of one refusal. Each answer enum has a definition that reads it as an Outcome.
 use mathlib.Core.Bool.{Bool, true, false}
+use mathlib.Core.List.{List, [], _∷_}
 use mathlib.Core.Option.{Option, none, some}
+use mathlib.Core.Path.{_≡_}
 use Prim.Native.Nat.{ℕ}
 use Rattle.rank_sel.specs.declared.Answer.{Answer}
 use Rattle.rank_sel.specs.declared.Answer.the-variants.{Value, Refused}
 use Rattle.rank_sel.specs.declared.Refusal.{Refusal}
 use Rattle.rank_sel.specs.declared.Refusal.the-variants.{LenTooLarge, TooFewWords, OnesPerInventoryTooLarge, WordsPerSubinventoryTooLarge, OverheadNotPositive, InventoryTooShort, SpillTooShort, RankTooLarge, SummaryUnlawful, CellsUnlawful, RanksFall}
+use Rattle.rank_sel.specs.declared.Tested.{Tested}
+use Rattle.rank_sel.specs.declared.Tested.the-variants as Tested·v
 
 pub data Outcome (A : Type 0) : Type 0 where
   answer : A → Outcome A
@@ -33,6 +37,33 @@ answered (Refused r) = refused (numberOf r)
 abbrev pub refuseIf : {A : Type 0} → Bool → ℕ → Outcome A → Outcome A
 refuseIf true n rest = refused n
 refuseIf false n rest = rest
+
+-- a condition, and the number that it gives
+abbrev pub Conditions : Type 0
+Conditions = List (Bool × ℕ)
+
+-- tests in their order: the number of the first that holds, else what comes after them
+abbrev pub refuseBy : {A : Type 0} → Conditions → Outcome A → Outcome A
+refuseBy [] rest = rest
+refuseBy (c ∷ cs) rest = refuseIf (c .0) (c .1) (refuseBy cs rest)
+
+-- the tests alone
+abbrev pub testBy : Conditions → Outcome (Unit {0})
+testBy cs = refuseBy cs (answer tt)
+
+-- none of them holds
+abbrev pub NoneOf : Conditions → Type 0
+NoneOf [] = Unit {0}
+NoneOf (c ∷ cs) = (c .0 ≡ false) × NoneOf cs
+
+abbrev pub tested : Tested → Outcome (Unit {0})
+tested Tested·v.Passed = answer tt
+tested (Tested·v.Refused r) = refused (numberOf r)
+
+-- what a test refused for; one that passed refused for nothing, and any case would do
+abbrev pub reasonOf : Tested → Refusal
+reasonOf Tested·v.Passed = SummaryUnlawful
+reasonOf (Tested·v.Refused r) = r
 
 -- number n where there is nothing, else what there is
 abbrev pub orRefuse : {A : Type 0} → ℕ → Option A → Outcome A

@@ -2,8 +2,8 @@
 // turned down for, and a few functions on whole numbers.
 ghost use mathlib.Core.Path.{_≡_};
 ghost use Prim.Native.Nat.{_-_, _^_, _<_, max as maximum, min as minimum};
-ghost use Rattle.rank_sel.specs.Numbers.{ilog2 as wholeLog2};
-ghost use Rattle.rank_sel.specs.Outcome.{numberOf};
+ghost use Rattle.rank_sel.specs.Numbers.{ceilDiv, ilog2 as wholeLog2};
+ghost use Rattle.rank_sel.specs.Outcome.{numberOf, reasonOf};
 
 // A case for each row of document 01, "When a call is turned down".
 pub enum Refusal {
@@ -20,15 +20,49 @@ pub enum Refusal {
     RanksFall,
 }
 
+// The rows, in their order.
+pub const REFUSAL_COUNT: usize = 11;
+
+pub const REFUSALS: [Refusal; REFUSAL_COUNT] = [
+    Refusal::LenTooLarge,
+    Refusal::TooFewWords,
+    Refusal::OnesPerInventoryTooLarge,
+    Refusal::WordsPerSubinventoryTooLarge,
+    Refusal::OverheadNotPositive,
+    Refusal::InventoryTooShort,
+    Refusal::SpillTooShort,
+    Refusal::RankTooLarge,
+    Refusal::SummaryUnlawful,
+    Refusal::CellsUnlawful,
+    Refusal::RanksFall,
+];
+
 // A number, or what the call was turned down for.
 pub enum Answer {
     Value(u64),
     Refused(Refusal),
 }
 
-// The row's number.
+// What a test found.
+pub enum Tested {
+    Passed,
+    Refused(Refusal),
+}
+
+// What a test refused for; one that passed refused for nothing, and any case would do.
+pub fn reason(tested: Tested) -> Refusal
+    ensures { λ r. ⌜ r ≡ reasonOf tested ⌝ }
+{
+    match tested {
+        Tested::Passed => Refusal::SummaryUnlawful,
+        Tested::Refused(refusal) => refusal,
+    }
+}
+
+// The row's number. Its bound is for C, whose status is a u32 with 255 for a code that is none.
 pub fn refusal_number(refusal: Refusal) -> u64
-    ensures { λ r. ⌜ r ≡ numberOf refusal ⌝ }
+    ensures row { λ r. ⌜ r ≡ numberOf refusal ⌝ }
+    ensures bound { λ r. ⌜ r < 255 ⌝ }
 {
     match refusal {
         Refusal::LenTooLarge => 1,
@@ -72,6 +106,14 @@ pub fn pow2(k: u32) -> u64
     ensures { λ r. ⌜ r ≡ 2 ^ k ⌝ }
 {
     1u64 << k
+}
+
+// n / 2^k, rounded up.
+pub fn ceil_shift(n: u64, k: u32) -> u64
+    requires { ⌜ (n < 2 ^ 62) × (k < 64) ⌝ }
+    ensures { λ r. ⌜ r ≡ ceilDiv n (2 ^ k) ⌝ }
+{
+    (n + (pow2(k) - 1)) >> k
 }
 
 // The whole part of the logarithm of an n above 0.

@@ -1,6 +1,6 @@
 // The library's answers to one case, held to the listed ones.
 ghost use mathlib.Core.Path.{_≡_};
-ghost use Rattle.inventory.specs.Read.{selectOf};
+ghost use Rattle.read_inventory.specs.Jump.{selectOf};
 ghost use Rattle.replay.specs.Cases.{Ordered, PartsIn};
 ghost use Rattle.replay.specs.Selects.{isAt, selectsAlike};
 use crate::cells::alike;

@@ -1,6 +1,6 @@
 -- The rules of the spacing. Document 01, "Choosing the spacing" and "When a call is turned down".
 use mathlib.Core.Bool.{Bool, false, not}
-use mathlib.Core.List.{List}
+use mathlib.Core.List.{List, [], _∷_}
 use mathlib.Core.Path.{_≡_}
 use Prim.Native.Nat.{ℕ, _+_, _-_, _*_, _^_, _≤_, max, min}
 use lib.Dec.{ltb}
@@ -8,8 +8,8 @@ use lib.IntN.{pos}
 use lib.Ieee.{Float, binary64, ofInt, mul, div, toUnsigned}
 use lib.Ieee.Positive.{positive}
 use Rattle.rank_sel.specs.Numbers.{ceilDiv, ilog2, clog2}
-use Rattle.rank_sel.specs.Outcome.{Outcome, answer, refused, numberOf, refuseIf}
-use Rattle.bit_record.specs.Record.{numSelected, lenTooLarge, tooFewWords, Admitted}
+use Rattle.rank_sel.specs.Outcome.{Outcome, answer, refused, numberOf, Conditions, refuseBy, andThen}
+use Rattle.bit_record.specs.Record.{numSelected, countOf, Admitted}
 use Rattle.bit_record.specs.declared.Polarity.{Polarity}
 use Rattle.spacing.specs.declared.Choice.{Choice}
 use Rattle.spacing.specs.declared.Choice.the-variants.{Default, Span, Power, Overhead, Fixed}
@@ -64,8 +64,8 @@ unfoldable pub cappedLog2Words : ℕ → ℕ → ℕ → ℕ
 cappedLog2Words num l maximum = min maximum (min (l - 2) (clog2 (max 1 num) - 2))
 
 -- S = max(0, L - M - 2)
-abbrev pub spaced : Polarity → ℕ → ℕ → ℕ → ℕ → Parameters
-spaced pol len num l m = record {
+abbrev pub planWith : Polarity → ℕ → ℕ → ℕ → ℕ → Parameters
+planWith pol len num l m = record {
   polarity = pol;
   len = len;
   num = num;
@@ -75,13 +75,13 @@ spaced pol len num l m = record {
 }
 
 abbrev pub capped : Polarity → ℕ → ℕ → ℕ → ℕ → Parameters
-capped pol len num l maximum = spaced pol len num l (cappedLog2Words num l maximum)
+capped pol len num l maximum = planWith pol len num l (cappedLog2Words num l maximum)
 
 unfoldable pub planFor : Polarity → ℕ → ℕ → Rule → Parameters
 planFor pol len num (span target maximum) = capped pol len num (spanLog2 num target len) maximum
 planFor pol len num (power l maximum) = capped pol len num l maximum
 planFor pol len num (overhead percentage maximum) = capped pol len num (spanLog2 num (overheadSpan percentage maximum) len) maximum
-planFor pol len num (fixed l m) = spaced pol len num l m
+planFor pol len num (fixed l m) = planWith pol len num l m
 
 -- the condition of refusal 3: L over 63. A span that is a u64 gives no such L (proofs/Span.antt, `span-most`), and
 -- neither does an overhead, whose span is a u64 wherever 4 does not hold
@@ -109,16 +109,15 @@ overheadNotPositive (power l maximum) = false
 overheadNotPositive (overhead percentage maximum) = not (positive percentage)
 overheadNotPositive (fixed l m) = false
 
+abbrev pub ofRule : ℕ → ℕ → Rule → Conditions
+ofRule num len r = (onesPerInventoryTooLarge num len r, 3) ∷ (wordsPerSubinventoryTooLarge r, 4) ∷ (overheadNotPositive r, 5) ∷ []
+
 -- what a rule makes of a counted record
 unfoldable pub chosenPlan : Polarity → ℕ → ℕ → Rule → Outcome Parameters
-chosenPlan pol len num r =
-    refuseIf (onesPerInventoryTooLarge num len r) 3
-    (refuseIf (wordsPerSubinventoryTooLarge r) 4 (refuseIf (overheadNotPositive r) 5 (answer (planFor pol len num r))))
+chosenPlan pol len num r = refuseBy (ofRule num len r) (answer (planFor pol len num r))
 
 unfoldable pub planOf : List ℕ → ℕ → Polarity → Choice → Outcome Parameters
-planOf ws len pol choice =
-    refuseIf (lenTooLarge len) 1
-    (refuseIf (tooFewWords ws len) 2 (chosenPlan pol len (numSelected pol ws len) (rule choice)))
+planOf ws len pol choice = andThen (countOf ws len pol) (λ num. chosenPlan pol len num (rule choice))
 
 abbrev pub planned : Planned → Outcome Parameters
 planned (Planned·v.Plan p) = answer p

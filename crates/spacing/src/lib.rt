@@ -1,7 +1,7 @@
 // How far apart the marks of an index stand: from a record and a choice to L, M and S.
 ghost use mathlib.Core.Path.{_≡_};
 ghost use Prim.Native.Nat.{_≤_};
-ghost use Rattle.spacing.specs.Spacing.{capped, chosenPlan, planned, planOf, rule, spaced};
+ghost use Rattle.spacing.specs.Spacing.{capped, chosenPlan, planned, planOf, planWith, rule};
 ghost use Rattle.spacing.specs.Spacing.{fixed, overhead as overheadRule, power, span};
 
 mod numbers;
@@ -48,7 +48,7 @@ pub enum Planned {
 
 // S follows from L and M.
 fn with_both(polarity: Polarity, len: u64, num: u64, log2_ones: u32, log2_words: u32) -> Parameters
-    ensures { λ r. ⌜ r ≡ spaced polarity len num «log2_ones» «log2_words» ⌝ }
+    ensures { λ r. ⌜ r ≡ planWith polarity len num «log2_ones» «log2_words» ⌝ }
 {
     Parameters {
         polarity: polarity,

@@ -1,3 +1,4 @@
+-- Each arm is the definition at the polarity that the match tells.
 use borrow.Author.Needs.{needs}
 use Rattle.bit_record.proofs.complement_zeros.Statement.{statement}
 use Rattle.bit_record.proofs.complement_zeros.Tie as tie

@@ -1,76 +1,136 @@
+-- Past the test the record's whole words are counted, and the bits of a last word beyond them; from len on the rank is N.
 use mathlib.Core.Path.{_≡_, ap, _∙_}
-use Prim.Native.Nat.{_+_, _*_, _/_}
+use mathlib.Core.List.{List}
+use Prim.Native.Nat.{ℕ, _+_, _*_, _/_}
 use native.Mathlib.Omega.{arith}
 use borrow.Author.Needs.{needs}
-use borrow.Author.Tests.{le-ltb, lt-ltb}
 use Rattle.rank_sel.specs.Outcome.{answer}
 use Rattle.rank_sel.specs.Rank.{rank}
+use Rattle.rank_sel.proofs.Outcome.{Tells, passed-none, passed-then, stopped-then}
 use Rattle.rank_sel.proofs.Rank.{rank-zero}
 use Rattle.select_in_word.proofs.Holds.{holds-ones}
-use Rattle.bit_record.specs.Record.{selected, countOf}
+use Rattle.bit_record.specs.Record.{selected, numSelected, ofRecord, countOf, Admitted}
+use Rattle.bit_record.proofs.Counted.{admitted}
 use Rattle.bit_record.proofs.Record.{rank-num, words-most}
 use Rattle.bit_record.proofs.count.Statement.{statement}
 use Rattle.bit_record.proofs.count.Tie as tie
 
-whole : (c : tie.After-count-words) → c .count-words .result ≡ rank (selected (c .before .before .before .before .args .polarity) (c .before .before .before .before .args .words .now) (c .before .before .before .before .args .len)) (64 * (c .before .before .before .before .args .len / 64))
-whole c =
-    let a = c .before .before .before .before .args in
-    let f = selected (a .polarity) (a .words .now) (a .len) in
-    let z : rank f (64 * 0) ≡ 0 = rank-zero f in
-    let e : rank f (64 * (0 + a .len / 64)) ≡ rank f (64 * (a .len / 64)) = ap (rank f) (omega arith) in
-    omega (arith, c .count-words .ensures .exact (a .len) (omega arith))
+-- the test was passed
+module _ (c : tie.After-enum-told) where
+  abbrev at-test : tie.After-test-record
+  at-test = c .before .before
+
+  abbrev at-start : tie.Start
+  at-start = at-test .before .before
+
+  told : Tells (ofRecord (at-start .args .words .now) (at-start .args .len)) (at-test .test-record .result)
+  told = record { told = at-test .test-record .ensures }
+
+  held : Admitted (at-start .args .words .now) (at-start .args .len)
+  held = admitted _ _ (passed-none told (c .enum-told .given .1))
+
+  answers : (n : ℕ) → n ≡ numSelected (at-start .args .polarity) (at-start .args .words .now) (at-start .args .len)
+      → answer n ≡ countOf (at-start .args .words .now) (at-start .args .len) (at-start .args .polarity)
+  unfolding countOf
+  answers n e =
+      ap answer e ∙ passed-then told (c .enum-told .given .1)
+      (answer (numSelected (at-start .args .polarity) (at-start .args .words .now) (at-start .args .len)))
+
+-- the whole words are counted
+module _ (c : tie.After-count-words) where
+  abbrev at-passed : tie.After-enum-told
+  at-passed = c .before
+
+  abbrev at-open : tie.Start
+  at-open = at-start at-passed
+
+  whole : c .count-words .result ≡ rank (selected (at-open .args .polarity) (at-open .args .words .now) (at-open .args .len))
+      (64 * (at-open .args .len / 64))
+  whole =
+      let a = at-open .args in
+      let f = selected (a .polarity) (a .words .now) (a .len) in
+      let z : rank f (64 * 0) ≡ 0 = rank-zero f in
+      let e : rank f (64 * (0 + a .len / 64)) ≡ rank f (64 * (a .len / 64)) = ap (rank f) (omega arith) in
+      omega (arith, c .count-words .ensures .exact (a .len) (omega arith))
+
+test-record-requires : tie.Need-test-record-requires
+test-record-requires c κs = search needs
+
+enum-told : tie.Need-enum-told
+enum-told c = search needs
+
+enum-told-2 : tie.Need-enum-told-2
+enum-told-2 c = search needs
+
+reason-requires : tie.Need-reason-requires
+reason-requires c κs = search needs
 
 returns : tie.Need-returns
 unfolding countOf
-returns c = simp (lt-ltb _ _ (c .if1 .taken))
-
-add-if2 : tie.Need-add-if2
-add-if2 c = search needs
-
-returns-2 : tie.Need-returns-2
-unfolding countOf
-returns-2 c = simp (le-ltb _ _ (c .before .if1 .left), lt-ltb _ _ (c .if2 .taken))
+returns c =
+    let at-refused = c .before in
+    let at-test = at-refused .before .before in
+    let at-start = at-test .before .before in
+    let a = at-start .args in
+    stopped-then {cs = ofRecord (a .words .now) (a .len)} (record { told = at-test .test-record .ensures }) (c .reason .result)
+    (at-refused .enum-told2 .given .1) (c .reason .ensures)
+    (answer (numSelected (a .polarity) (a .words .now) (a .len)))
 
 count-words-requires : tie.Need-count-words-requires
-count-words-requires c κs = omega arith
+count-words-requires c κs = let h = held c in omega (arith, h .short, h .held)
 
-returns-3 : tie.Need-returns-3
-unfolding countOf
-returns-3 c =
-    let a = c .before .before .before .before .before .args in
-    simp (le-ltb _ _ (c .before .before .before .if1 .left), le-ltb _ _ (c .before .before .if2 .left))
-    (ap answer (whole (c .before) ∙ rank-num (a .polarity) (a .words .now) (a .len) (64 * (a .len / 64)) (omega arith)))
+returns-2 : tie.Need-returns-2
+returns-2 c =
+    let at-words = c .before in
+    let a = at-open at-words .args in
+    answers (at-passed at-words) (at-words .count-words .result)
+    (whole at-words ∙ rank-num (a .polarity) (a .words .now) (a .len) (64 * (a .len / 64)) (omega arith))
 
 selected-word-requires : tie.Need-selected-word-requires
-selected-word-requires c κs = omega arith
+selected-word-requires c κs = let h = held (at-passed (c .before)) in omega (arith, h .short, h .held)
 
 count-ones-requires : tie.Need-count-ones-requires
 count-ones-requires c κs = search needs
 
-add-t10 : tie.Need-add-t10
-add-t10 c =
-    let a = c .before .before .before .before .before .before .before .args in
-    omega (arith, c .count-ones .ensures .most, words-most (a .polarity) (a .words .now) 0 (a .len / 64) (c .before .before .before .count-words .result) (c .before .before .before .count-words .ensures))
+add-t11 : tie.Need-add-t11
+add-t11 c =
+    let at-words = c .before .before .before in
+    let a = at-open at-words .args in
+    omega (
+      arith,
+      held (at-passed at-words) .short,
+      c .count-ones .ensures .most,
+      words-most (a .polarity) (a .words .now) 0 (a .len / 64) (at-words .count-words .result) (at-words .count-words .ensures),
+    )
 
-returns-4 : tie.Need-returns-4
-unfolding countOf
-returns-4 c =
-    let a = c .before .before .before .before .before .before .before .args in
+returns-3 : tie.Need-returns-3
+returns-3 c =
+    let at-selected = c .before in
+    let at-words = at-selected .before .before in
+    let a = at-open at-words .args in
     let f = selected (a .polarity) (a .words .now) (a .len) in
-    let h = holds-ones 64 f (64 * (a .len / 64)) (c .before .selected-word .result) (c .before .selected-word .ensures) in
-    simp (le-ltb _ _ (c .before .before .before .before .before .if1 .left), le-ltb _ _ (c .before .before .before .before .if2 .left))
-    (ap answer (omega (arith, h, whole (c .before .before .before), c .count-ones .ensures .exact, rank-num (a .polarity) (a .words .now) (a .len) (64 * (a .len / 64) + 64) (omega arith))))
+    let h = holds-ones 64 f (64 * (a .len / 64)) (at-selected .selected-word .result) (at-selected .selected-word .ensures) in
+    answers (at-passed at-words) _
+    (omega (
+      arith,
+      h,
+      whole at-words,
+      c .count-ones .ensures .exact,
+      rank-num (a .polarity) (a .words .now) (a .len) (64 * (a .len / 64) + 64) (omega arith),
+    ))
 
 pub count-spec : {M : Type 1} → statement M
 count-spec =
     tie.close
     (tie.spec
+    test-record-requires
+    enum-told
+    enum-told-2
+    reason-requires
     returns
-    add-if2
-    returns-2
     count-words-requires
-    returns-3
+    returns-2
     selected-word-requires
     count-ones-requires
-    add-t10
-    returns-4)
+    add-t11
+    returns-3)

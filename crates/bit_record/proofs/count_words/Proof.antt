@@ -1,3 +1,4 @@
+-- After i turns the total counts i words, each turn one more (`words-more`); it is at most 64 * (first + i), so that it fits.
 use mathlib.Core.Path.{subst}
 use Prim.Native.Nat.{ℕ, _+_, _-_, _≤_}
 use native.Mathlib.Omega.{arith}
@@ -33,8 +34,10 @@ count-ones-requires c κs = tt
 
 add-total : tie.Need-add-total Inv-loop μ-loop
 add-total c =
-    let a = c .before .before .before .before .before .before .args in
-    let l = c .before .before .before .before .loop in
+    let at-loop = c .before .before .before .before in
+    let at-start = at-loop .before .before in
+    let a = at-start .args in
+    let l = at-loop .loop in
     omega (arith, c .count-ones .ensures .most, words-most (a .polarity) (a .words .now) (a .first) (l .i) (l .total) (l .inv .1))
 
 add-i : tie.Need-add-i Inv-loop μ-loop
@@ -45,17 +48,24 @@ loop-less c = omega arith
 
 loop-again : tie.Need-loop-again Inv-loop μ-loop
 loop-again c =
-    let a = c .before .before .before .before .before .before .args in
-    let l = c .before .before .before .before .loop in (
+    let at-complement-zeros = c .before in
+    let at-shared-slice-known2 = at-complement-zeros .before in
+    let at-loop = at-shared-slice-known2 .before .before in
+    let at-start = at-loop .before .before in
+    let a = at-start .args in
+    let l = at-loop .loop in (
       omega arith,
-      rw (c .count-ones .ensures .exact, c .before .complement-zeros .ensures)
-          (words-more (a .polarity) (a .words .now) (a .first) (l .i) (l .total) (l .inv .1) (c .before .before .shared-slice-known2 .given (a .first + l .i) .fits)),
+      rw (c .count-ones .ensures .exact, at-complement-zeros .complement-zeros .ensures)
+          (words-more (a .polarity) (a .words .now) (a .first) (l .i) (l .total) (l .inv .1)
+          (at-shared-slice-known2 .shared-slice-known2 .given (a .first + l .i) .fits)),
     )
 
 returns : tie.Need-returns Inv-loop μ-loop
 returns c =
-    let a = c .before .before .before .args in
-    subst (λ (m : ℕ). CountsWords (a .polarity) (a .words .now) (a .first) m (c .before .loop .total)) (omega arith) (c .before .loop .inv .1)
+    let at-loop = c .before in
+    let at-start = at-loop .before .before in
+    let a = at-start .args in
+    subst (λ (m : ℕ). CountsWords (a .polarity) (a .words .now) (a .first) m (at-loop .loop .total)) (omega arith) (at-loop .loop .inv .1)
 
 pub count-words-spec : {M : Type 1} → statement M
 count-words-spec =

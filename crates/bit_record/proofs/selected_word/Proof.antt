@@ -1,3 +1,4 @@
+-- What the three calls return is the word masked as in `holds-word`, which says that it holds the selected positions.
 use borrow.Author.Needs.{needs}
 use Rattle.bit_record.proofs.Record.{holds-word}
 use Rattle.bit_record.proofs.selected_word.Statement.{statement}
@@ -26,9 +27,14 @@ mask-tail-word-requires c κs = search needs
 
 returns : tie.Need-returns
 returns c =
-    let a = c .before .before .before .before .before .args in
-    rw (c .mask-tail-word .ensures, c .before .tail-mask .ensures, c .before .before .complement-zeros .ensures)
-    (holds-word (a .polarity) (a .words .now) (a .len) (a .i) (c .before .before .before .shared-slice-known2 .given (a .i) .fits) (c .before .before .before .before .before .pre .1))
+    let at-tail-mask = c .before in
+    let at-complement-zeros = at-tail-mask .before in
+    let at-shared-slice-known2 = at-complement-zeros .before in
+    let at-start = at-shared-slice-known2 .before .before in
+    let a = at-start .args in
+    rw (c .mask-tail-word .ensures, at-tail-mask .tail-mask .ensures, at-complement-zeros .complement-zeros .ensures)
+    (holds-word (a .polarity) (a .words .now) (a .len) (a .i) (at-shared-slice-known2 .shared-slice-known2 .given (a .i) .fits)
+    (at-start .pre .1))
 
 pub selected-word-spec : {M : Type 1} → statement M
 selected-word-spec =

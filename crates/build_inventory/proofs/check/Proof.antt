@@ -1,12 +1,7 @@
-use mathlib.Core.Bool.{_&&_}
+-- A summary that `admit` answers has room for its index, and `compare` holds the given one and the cells to it; a refusal stays.
 use mathlib.Core.Path.{sym, ap, _∙_}
-use lib.ListN.{length}
 use borrow.Author.Needs.{needs}
-use Rattle.rank_sel.specs.Outcome.{Outcome, answer, andThen}
-use Rattle.inventory.specs.declared.Summary.{Summary}
-use Rattle.build_inventory.specs.Build.{built, checkOf, sameSummary}
-use Rattle.build_inventory.specs.Compare.{sameIndex}
-use Rattle.build_inventory.specs.Positions.{posIn}
+use Rattle.build_inventory.specs.Build.{built, checkOf}
 use Rattle.build_inventory.proofs.Outcomes.{admission}
 use Rattle.build_inventory.proofs.check.Statement.{statement}
 use Rattle.build_inventory.proofs.check.Tie as tie
@@ -17,10 +12,15 @@ admit-requires c κs = search needs
 enum-known-right : tie.Need-enum-known-right
 enum-known-right c = search needs
 
-verdict-requires : tie.Need-verdict-requires
-verdict-requires c κs =
-    let a = c .before .before .before .before .before .before .before .args in
-    let m = admission (a .words .now) (a .len) (a .polarity) (a .choice) (length (a .inventory .now)) (length (a .spill .now)) (c .before .right .given .0 .0) (sym (c .before .before .before .admit .ensures) ∙ ap built (c .before .right .given .1)) in
+compare-requires : tie.Need-compare-requires
+compare-requires c κs =
+    let at-right = c .before in
+    let at-admit = at-right .before .before in
+    let at-start = at-admit .before .before .before .before in
+    let a = at-start .args in
+    let m =
+    admission (a .words .now) (a .len) (a .polarity) (a .choice) _ _ (at-right .right .given .0 .0)
+    (sym (at-admit .admit .ensures) ∙ ap built (at-right .right .given .1)) in
     record { plans = m .plans; cells = m .room; spills = m .spill-room }
 
 enum-known-refusal : tie.Need-enum-known-refusal
@@ -29,15 +29,16 @@ enum-known-refusal c = search needs
 returns : tie.Need-returns
 unfolding checkOf
 returns c =
-    let a = c .before .before .before .before .before .before .before .before .args in
-    c .verdict .ensures
-    ∙ ap (λ (o : Outcome Summary). andThen o (λ u. answer (sameSummary (a .summary) u && sameIndex (posIn (a .words .now) (u .plan)) (u .plan) (a .inventory .now) (a .spill .now)))) (ap built (sym (c .before .before .right .given .1)) ∙ c .before .before .before .before .admit .ensures)
+    let at-right = c .before .before in
+    let at-admit = at-right .before .before in
+    rw (← (ap built (sym (at-right .right .given .1)) ∙ at-admit .admit .ensures)) (c .compare .ensures)
 
 returns-2 : tie.Need-returns-2
 unfolding checkOf
 returns-2 c =
-    let a = c .before .before .before .before .before .before .before .args in
-    ap (λ (o : Outcome Summary). andThen o (λ u. answer (sameSummary (a .summary) u && sameIndex (posIn (a .words .now) (u .plan)) (u .plan) (a .inventory .now) (a .spill .now)))) (ap built (sym (c .before .refusal .given .1)) ∙ c .before .before .before .admit .ensures)
+    let at-refusal = c .before in
+    let at-admit = at-refusal .before .before in
+    rw (← (ap built (sym (at-refusal .refusal .given .1)) ∙ at-admit .admit .ensures))
 
 pub check-spec : {M : Type 1} → statement M
 check-spec =
@@ -45,7 +46,7 @@ check-spec =
     (tie.spec
     admit-requires
     enum-known-right
-    verdict-requires
+    compare-requires
     enum-known-refusal
     returns
     returns-2)

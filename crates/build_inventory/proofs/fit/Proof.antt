@@ -1,9 +1,8 @@
-use mathlib.Core.Path.{sym, ap, _∙_}
-use Prim.Native.Nat.{ℕ}
+-- Either the count of the inventory's cells is refused by 6, or it goes into the sizes beside the spill's count.
+use mathlib.Core.Path.{refl, sym, ap, _∙_}
 use borrow.Author.Needs.{needs}
-use Rattle.build_inventory.specs.Positions.{spillLenOf}
-use Rattle.rank_sel.specs.Outcome.{Outcome, answer, answered, andThen}
-use Rattle.build_inventory.proofs.Outcomes.{summaryBy, fitted-count}
+use Rattle.rank_sel.specs.Outcome.{answered}
+use Rattle.build_inventory.proofs.Outcomes.{fitted-by}
 use Rattle.build_inventory.proofs.fit.Statement.{statement}
 use Rattle.build_inventory.proofs.fit.Tie as tie
 
@@ -21,16 +20,21 @@ enum-known-refusal c = search needs
 
 returns : tie.Need-returns
 returns c =
-    let a = c .before .before .before .before .before .before .args in
-    ap (λ (z : ℕ). answer (summaryBy (a .plan) (c .before .before .inventory-len .given .0 .0) z)) (c .spill-count .ensures)
-    ∙ ap (λ (o : Outcome ℕ). andThen o (λ n. answer (summaryBy (a .plan) n (spillLenOf (a .words .now) (a .plan))))) (ap answered (sym (c .before .before .inventory-len .given .1)) ∙ c .before .before .before .before .inventory-count .ensures)
-    ∙ fitted-count (a .words .now) (a .plan) (a .most)
+    let at-known = c .before .before in
+    let at-count = at-known .before .before in
+    let at-start = at-count .before .before in
+    let a = at-start .args in
+    let e = ap answered (sym (at-known .inventory-len .given .1)) ∙ at-count .inventory-count .ensures in
+    fitted-by (a .words .now) (a .plan) (a .most) e (c .spill-count .ensures)
 
 returns-2 : tie.Need-returns-2
 returns-2 c =
-    let a = c .before .before .before .before .before .args in
-    ap (λ (o : Outcome ℕ). andThen o (λ n. answer (summaryBy (a .plan) n (spillLenOf (a .words .now) (a .plan))))) (ap answered (sym (c .before .refusal .given .1)) ∙ c .before .before .before .inventory-count .ensures)
-    ∙ fitted-count (a .words .now) (a .plan) (a .most)
+    let at-known = c .before in
+    let at-count = at-known .before .before in
+    let at-start = at-count .before .before in
+    let a = at-start .args in
+    let e = ap answered (sym (at-known .refusal .given .1)) ∙ at-count .inventory-count .ensures in
+    fitted-by (a .words .now) (a .plan) (a .most) e refl
 
 pub fit-spec : {M : Type 1} → statement M
 fit-spec =

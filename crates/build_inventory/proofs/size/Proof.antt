@@ -1,28 +1,45 @@
+-- A plan that is answered is of the record, so `fit` takes it and answers; a refusal of the plan stays.
 use mathlib.Core.Path.{sym, ap, _∙_}
 use borrow.Author.Needs.{needs}
-use Rattle.rank_sel.specs.Outcome.{Outcome, answer, andThen}
-use Rattle.inventory.specs.declared.Summary.{Summary}
-use Rattle.build_inventory.specs.Build.{built, sizesOf, sizeOf}
+use Rattle.spacing.specs.Spacing.{planned}
+use Rattle.spacing.proofs.Facts.{plan-facts}
+use Rattle.build_inventory.specs.Build.{sizeOf}
 use Rattle.build_inventory.proofs.size.Statement.{statement}
 use Rattle.build_inventory.proofs.size.Tie as tie
 
-measure-requires : tie.Need-measure-requires
-measure-requires c κs = search needs
+plan-requires : tie.Need-plan-requires
+plan-requires c κs = search needs
 
-enum-known-summary : tie.Need-enum-known-summary
-enum-known-summary c = search needs
+enum-known-plan : tie.Need-enum-known-plan
+enum-known-plan c = search needs
+
+fit-requires : tie.Need-fit-requires
+fit-requires c κs =
+    let at-known = c .before in
+    let at-plan = at-known .before .before in
+    let at-start = at-plan .before .before in
+    let a = at-start .args in
+    let e = sym (at-plan .plan .ensures) ∙ ap planned (at-known .plan2 .given .1) in
+    plan-facts (a .words .now) (a .len) (a .polarity) (a .choice) _ e .of
 
 enum-known-refusal : tie.Need-enum-known-refusal
 enum-known-refusal c = search needs
 
 returns : tie.Need-returns
 unfolding sizeOf
-returns c = ap (λ (o : Outcome Summary). andThen o (λ t. answer (sizesOf t))) (ap built (sym (c .before .summary .given .1)) ∙ c .before .before .before .measure .ensures)
+returns c =
+    let at-known = c .before .before in
+    let at-plan = at-known .before .before in
+    rw (← (ap planned (sym (at-known .plan2 .given .1)) ∙ at-plan .plan .ensures)) (c .fit .ensures)
 
 returns-2 : tie.Need-returns-2
 unfolding sizeOf
-returns-2 c = ap (λ (o : Outcome Summary). andThen o (λ t. answer (sizesOf t))) (ap built (sym (c .before .refusal .given .1)) ∙ c .before .before .before .measure .ensures)
+returns-2 c =
+    let at-known = c .before in
+    let at-plan = at-known .before .before in
+    rw (← (ap planned (sym (at-known .refusal .given .1)) ∙ at-plan .plan .ensures))
 
 pub size-spec : {M : Type 1} → statement M
 size-spec =
-    tie.close (tie.spec measure-requires enum-known-summary enum-known-refusal returns returns-2)
+    tie.close
+    (tie.spec plan-requires enum-known-plan fit-requires enum-known-refusal returns returns-2)

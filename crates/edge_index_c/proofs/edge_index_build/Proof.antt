@@ -1,3 +1,5 @@
+-- An unknown code leaves all as it was. Else the codes stand for the entry's arguments, and its summary goes out as eight
+-- numbers or its refusal as its own, with the cells that it left (`built-yes`, `built-no`).
 use mathlib.Core.Path.{refl}
 use lib.ListN.{length}
 use borrow.Author.Needs.{needs}
@@ -14,7 +16,9 @@ is-known-requires c κs = search needs
 
 returns : tie.Need-returns
 unfolding buildC
-returns c = rw (is-unknown _ _ _ (c .before .is-known .ensures) (c .if1 .taken)) (record { returned = record { status = refl; out = refl }; inventory = refl; spill = refl })
+returns c =
+    rw (is-unknown _ _ _ (c .before .is-known .ensures) (c .if1 .taken))
+    (record { returned = record { status = refl; out = refl }; inventory = refl; spill = refl })
 
 choice-at-requires : tie.Need-choice-at-requires
 choice-at-requires c κs = search needs
@@ -45,9 +49,20 @@ same-length-2 c = search needs
 
 returns-2 : tie.Need-returns-2
 unfolding buildC
-returns-2 c = let a = c .before .before .before .before .before .before .before .before .before .before .before .before .before .before .before .before .before .before .args in
-    rw (is-known _ _ _ (c .before .before .before .before .before .before .before .before .before .before .before .before .before .before .is-known .ensures) (c .before .before .before .before .before .before .before .before .before .before .before .before .before .if1 .left))
-    (built-yes (ap2 (λ (p : Polarity) (k : Choice). buildOf (a .words .now) (a .len) p k (length (a .inventory .now)) (length (a .spill .now))) (c .before .before .before .before .before .before .before .before .before .before .before .polarity-at .ensures) (c .before .before .before .before .before .before .before .before .before .before .before .before .choice-at .ensures)) (c .before .before .before .before .before .before .before .before .build .ensures) (c .before .before .built .given .0 .0) (c .before .before .built .given .1) (c .numbers-of .ensures))
+returns-2 c =
+    let at-built = c .before .before in
+    let at-build = at-built .before .before .before .before .before .before in
+    let at-polarity-at = at-build .before .before .before in
+    let at-choice-at = at-polarity-at .before in
+    let at-if1 = at-choice-at .before in
+    let at-is-known = at-if1 .before in
+    let at-start = at-is-known .before .before .before .before in
+    let a = at-start .args in
+    rw (is-known _ _ _ (at-is-known .is-known .ensures) (at-if1 .if1 .left))
+    (built-yes
+    (ap2 (λ (p : Polarity) (k : Choice). buildOf (a .words .now) (a .len) p k (length (a .inventory .now)) (length (a .spill .now)))
+    (at-polarity-at .polarity-at .ensures) (at-choice-at .choice-at .ensures))
+    (at-build .build .ensures) (at-built .built .given .0 .0) (at-built .built .given .1) (c .numbers-of .ensures))
 
 same-length-3 : tie.Need-same-length-3
 same-length-3 c = search needs
@@ -57,9 +72,20 @@ same-length-4 c = search needs
 
 returns-3 : tie.Need-returns-3
 unfolding buildC
-returns-3 c = let a = c .before .before .before .before .before .before .before .before .before .before .before .before .before .before .before .before .before .before .args in
-    rw (is-known _ _ _ (c .before .before .before .before .before .before .before .before .before .before .before .before .before .before .is-known .ensures) (c .before .before .before .before .before .before .before .before .before .before .before .before .before .if1 .left))
-    (built-no (ap2 (λ (p : Polarity) (k : Choice). buildOf (a .words .now) (a .len) p k (length (a .inventory .now)) (length (a .spill .now))) (c .before .before .before .before .before .before .before .before .before .before .before .polarity-at .ensures) (c .before .before .before .before .before .before .before .before .before .before .before .before .choice-at .ensures)) (c .before .before .before .before .before .before .before .before .build .ensures) (c .before .before .refusal .given .0 .0) (c .before .before .refusal .given .1) (c .status .ensures))
+returns-3 c =
+    let at-refusal = c .before .before in
+    let at-build = at-refusal .before .before .before .before .before .before in
+    let at-polarity-at = at-build .before .before .before in
+    let at-choice-at = at-polarity-at .before in
+    let at-if1 = at-choice-at .before in
+    let at-is-known = at-if1 .before in
+    let at-start = at-is-known .before .before .before .before in
+    let a = at-start .args in
+    rw (is-known _ _ _ (at-is-known .is-known .ensures) (at-if1 .if1 .left))
+    (built-no
+    (ap2 (λ (p : Polarity) (k : Choice). buildOf (a .words .now) (a .len) p k (length (a .inventory .now)) (length (a .spill .now)))
+    (at-polarity-at .polarity-at .ensures) (at-choice-at .choice-at .ensures))
+    (at-build .build .ensures) (at-refusal .refusal .given .0 .0) (at-refusal .refusal .given .1) (c .status .ensures))
 
 pub edge-index-build-spec : {M : Type 1} → statement M
 edge-index-build-spec =

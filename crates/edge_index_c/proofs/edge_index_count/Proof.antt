@@ -1,3 +1,4 @@
+-- A polarity over 1 is turned down; else the entry's answer for what the code says goes out by `give`.
 use mathlib.Core.Path.{refl, ap, _∙_}
 use borrow.Author.Tests.{lt-ltb, le-ltb}
 use borrow.Author.Needs.{needs}
@@ -22,8 +23,15 @@ give-requires c κs = search needs
 
 returns-2 : tie.Need-returns-2
 unfolding countC
-returns-2 c = let a = c .before .before .before .before .before .before .args in
-    rw (le-ltb _ _ (c .before .before .before .before .if1 .left)) (returned-as (c .before .before .count .ensures ∙ ap (countOf (a .words .now) (a .len)) (c .before .before .before .polarity-at .ensures)) (c .give .ensures))
+returns-2 c =
+    let at-count = c .before .before in
+    let at-polarity-at = at-count .before in
+    let at-if1 = at-polarity-at .before in
+    let at-start = at-if1 .before .before in
+    let a = at-start .args in
+    rw (le-ltb _ _ (at-if1 .if1 .left))
+    (returned-as (at-count .count .ensures ∙ ap (countOf (a .words .now) (a .len)) (at-polarity-at .polarity-at .ensures))
+    (c .give .ensures))
 
 pub edge-index-count-spec : {M : Type 1} → statement M
 edge-index-count-spec =

@@ -1,8 +1,9 @@
+-- A summary with a polarity over 1 is turned down; else the entry's answer for the summary as read goes out by `give`.
 use mathlib.Core.Path.{refl, ap, _∙_}
 use borrow.Author.Tests.{lt-ltb, le-ltb}
 use borrow.Author.Needs.{needs}
-use Rattle.inventory.specs.Read.{dwellOf}
-use Rattle.inventory.specs.declared.Summary.{Summary}
+use Rattle.read_inventory.specs.Jump.{dwellOf}
+use Rattle.inventory.specs.declared.summary.Summary.{Summary}
 use Rattle.edge_index_c.specs.Calls.{dwellC}
 use Rattle.edge_index_c.proofs.Returns.{returned-as}
 use Rattle.edge_index_c.proofs.edge_index_dwell.Statement.{statement}
@@ -26,8 +27,17 @@ give-requires c κs = search needs
 
 returns-2 : tie.Need-returns-2
 unfolding dwellC
-returns-2 c = let a = c .before .before .before .before .before .before .before .before .before .args in
-    rw (le-ltb _ _ (c .before .before .before .before .if1 .left)) (returned-as (c .before .before .dwell .ensures ∙ ap (λ (t : Summary). dwellOf (a .words .now) t (a .inventory .now) (a .spill .now) (a .a) (a .b)) (c .before .before .before .summary-at .ensures)) (c .give .ensures))
+returns-2 c =
+    let at-dwell = c .before .before in
+    let at-summary-at = at-dwell .before in
+    let at-if1 = at-summary-at .before in
+    let at-start = at-if1 .before .before .before .before .before in
+    let a = at-start .args in
+    rw (le-ltb _ _ (at-if1 .if1 .left))
+    (returned-as
+    (at-dwell .dwell .ensures ∙ ap (λ (t : Summary). dwellOf (a .words .now) t (a .inventory .now) (a .spill .now) (a .a) (a .b))
+    (at-summary-at .summary-at .ensures))
+    (c .give .ensures))
 
 pub edge-index-dwell-spec : {M : Type 1} → statement M
 edge-index-dwell-spec =

@@ -1,8 +1,9 @@
+-- A summary with a polarity over 1 is turned down; else the entry's mark and its rank go out, or its refusal as its number.
 use mathlib.Core.Path.{refl, sym, ap, _∙_}
 use borrow.Author.Tests.{lt-ltb, le-ltb}
 use borrow.Author.Needs.{needs}
-use Rattle.inventory.specs.Read.{hinted, hintOf}
-use Rattle.inventory.specs.declared.Summary.{Summary}
+use Rattle.read_inventory.specs.Jump.{hinted, hintOf}
+use Rattle.inventory.specs.declared.summary.Summary.{Summary}
 use Rattle.edge_index_c.specs.Calls.{hintC}
 use Rattle.edge_index_c.proofs.Returns.{returned-yes, returned-no}
 use Rattle.edge_index_c.proofs.edge_index_hint.Statement.{statement}
@@ -32,13 +33,33 @@ status-requires c κs = search needs
 
 returns-2 : tie.Need-returns-2
 unfolding hintC
-returns-2 c = let a = c .before .before .before .before .before .before .before .before .before .before .args in
-    rw (le-ltb _ _ (c .before .before .before .before .before .if1 .left)) (returned-yes (sym (ap hinted (c .before .at .given .1)) ∙ c .before .before .before .hint .ensures ∙ ap (λ (t : Summary). hintOf (a .words .now) t (a .inventory .now) (a .spill .now) (a .rank)) (c .before .before .before .before .summary-at .ensures)) refl)
+returns-2 c =
+    let at-at = c .before in
+    let at-hint = at-at .before .before in
+    let at-summary-at = at-hint .before in
+    let at-if1 = at-summary-at .before in
+    let at-start = at-if1 .before .before .before .before .before in
+    let a = at-start .args in
+    rw (le-ltb _ _ (at-if1 .if1 .left))
+    (returned-yes
+    (sym (ap hinted (at-at .at .given .1)) ∙ at-hint .hint .ensures
+    ∙ ap (λ (t : Summary). hintOf (a .words .now) t (a .inventory .now) (a .spill .now) (a .rank)) (at-summary-at .summary-at .ensures))
+    refl)
 
 returns-3 : tie.Need-returns-3
 unfolding hintC
-returns-3 c = let a = c .before .before .before .before .before .before .before .before .before .before .before .args in
-    rw (le-ltb _ _ (c .before .before .before .before .before .before .if1 .left)) (returned-no (sym (ap hinted (c .before .before .refusal .given .1)) ∙ c .before .before .before .before .hint .ensures ∙ ap (λ (t : Summary). hintOf (a .words .now) t (a .inventory .now) (a .spill .now) (a .rank)) (c .before .before .before .before .before .summary-at .ensures)) (c .status .ensures))
+returns-3 c =
+    let at-refusal = c .before .before in
+    let at-hint = at-refusal .before .before in
+    let at-summary-at = at-hint .before in
+    let at-if1 = at-summary-at .before in
+    let at-start = at-if1 .before .before .before .before .before in
+    let a = at-start .args in
+    rw (le-ltb _ _ (at-if1 .if1 .left))
+    (returned-no
+    (sym (ap hinted (at-refusal .refusal .given .1)) ∙ at-hint .hint .ensures
+    ∙ ap (λ (t : Summary). hintOf (a .words .now) t (a .inventory .now) (a .spill .now) (a .rank)) (at-summary-at .summary-at .ensures))
+    (c .status .ensures))
 
 pub edge-index-hint-spec : {M : Type 1} → statement M
 edge-index-hint-spec =

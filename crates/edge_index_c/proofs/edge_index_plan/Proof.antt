@@ -1,3 +1,4 @@
+-- An unknown code is turned down; else the entry's plan goes out as a summary's eight numbers, or its refusal as its own.
 use mathlib.Core.Path.{refl, sym, ap, _∙_}
 use borrow.Author.Needs.{needs}
 use Rattle.spacing.specs.Spacing.{planOf, planned}
@@ -36,14 +37,38 @@ status-requires c κs = search needs
 
 returns-2 : tie.Need-returns-2
 unfolding planC
-returns-2 c = let a = c .before .before .before .before .before .before .before .before .before .before .args in
-    rw (is-known _ _ _ (c .before .before .before .before .before .before .before .before .is-known .ensures) (c .before .before .before .before .before .before .before .if1 .left), ← (sym (ap planned (c .before .before .plan2 .given .1)) ∙ c .before .before .before .before .plan .ensures ∙ ap2 (planOf (a .words .now) (a .len)) (c .before .before .before .before .before .polarity-at .ensures) (c .before .before .before .before .before .before .choice-at .ensures)))
+returns-2 c =
+    let at-plan2 = c .before .before in
+    let at-plan = at-plan2 .before .before in
+    let at-polarity-at = at-plan .before in
+    let at-choice-at = at-polarity-at .before in
+    let at-if1 = at-choice-at .before in
+    let at-is-known = at-if1 .before in
+    let at-start = at-is-known .before .before in
+    let a = at-start .args in
+    rw (
+      is-known _ _ _ (at-is-known .is-known .ensures) (at-if1 .if1 .left),
+      ← (sym (ap planned (at-plan2 .plan2 .given .1)) ∙ at-plan .plan .ensures
+          ∙ ap2 (planOf (a .words .now) (a .len)) (at-polarity-at .polarity-at .ensures) (at-choice-at .choice-at .ensures)),
+    )
     (record { status = refl; out = c .numbers-of .ensures })
 
 returns-3 : tie.Need-returns-3
 unfolding planC
-returns-3 c = let a = c .before .before .before .before .before .before .before .before .before .before .args in
-    rw (is-known _ _ _ (c .before .before .before .before .before .before .before .before .is-known .ensures) (c .before .before .before .before .before .before .before .if1 .left), ← (sym (ap planned (c .before .before .refusal .given .1)) ∙ c .before .before .before .before .plan .ensures ∙ ap2 (planOf (a .words .now) (a .len)) (c .before .before .before .before .before .polarity-at .ensures) (c .before .before .before .before .before .before .choice-at .ensures)))
+returns-3 c =
+    let at-refusal = c .before .before in
+    let at-plan = at-refusal .before .before in
+    let at-polarity-at = at-plan .before in
+    let at-choice-at = at-polarity-at .before in
+    let at-if1 = at-choice-at .before in
+    let at-is-known = at-if1 .before in
+    let at-start = at-is-known .before .before in
+    let a = at-start .args in
+    rw (
+      is-known _ _ _ (at-is-known .is-known .ensures) (at-if1 .if1 .left),
+      ← (sym (ap planned (at-refusal .refusal .given .1)) ∙ at-plan .plan .ensures
+          ∙ ap2 (planOf (a .words .now) (a .len)) (at-polarity-at .polarity-at .ensures) (at-choice-at .choice-at .ensures)),
+    )
     (record { status = c .status .ensures; out = refl })
 
 pub edge-index-plan-spec : {M : Type 1} → statement M

@@ -1,3 +1,4 @@
+-- The entry's position goes out, or its refusal as its number.
 use mathlib.Core.Path.{refl, sym, ap, _∙_}
 use borrow.Author.Needs.{needs}
 use Rattle.select_in_word.specs.Select.{inWord}
@@ -18,10 +19,16 @@ status-requires : tie.Need-status-requires
 status-requires c κs = search needs
 
 returns : tie.Need-returns
-returns c = returned-yes (sym (ap inWord (c .before .p .given .1)) ∙ c .before .before .before .select-in-word .ensures) refl
+returns c =
+    let at-p = c .before in
+    let at-select-in-word = at-p .before .before in
+    returned-yes (sym (ap inWord (at-p .p .given .1)) ∙ at-select-in-word .select-in-word .ensures) refl
 
 returns-2 : tie.Need-returns-2
-returns-2 c = returned-no (sym (ap inWord (c .before .before .refusal .given .1)) ∙ c .before .before .before .before .select-in-word .ensures) (c .status .ensures)
+returns-2 c =
+    let at-refusal = c .before .before in
+    let at-select-in-word = at-refusal .before .before in
+    returned-no (sym (ap inWord (at-refusal .refusal .given .1)) ∙ at-select-in-word .select-in-word .ensures) (c .status .ensures)
 
 pub edge-index-select-in-word-spec : {M : Type 1} → statement M
 edge-index-select-in-word-spec =

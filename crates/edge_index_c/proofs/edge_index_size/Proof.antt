@@ -1,3 +1,4 @@
+-- An unknown code is turned down; else the entry's two counts go out, or its refusal as its number.
 use mathlib.Core.Path.{refl, sym, ap, _∙_}
 use borrow.Author.Needs.{needs}
 use Rattle.build_inventory.specs.Build.{sizeOf, sized}
@@ -33,15 +34,37 @@ status-requires c κs = search needs
 
 returns-2 : tie.Need-returns-2
 unfolding sizeC
-returns-2 c = let a = c .before .before .before .before .before .before .before .before .before .args in
-    rw (is-known _ _ _ (c .before .before .before .before .before .before .before .is-known .ensures) (c .before .before .before .before .before .before .if1 .left))
-    (returned-yes (sym (ap sized (c .before .inventory .given .1)) ∙ c .before .before .before .size .ensures ∙ ap2 (sizeOf (a .words .now) (a .len)) (c .before .before .before .before .polarity-at .ensures) (c .before .before .before .before .before .choice-at .ensures)) refl)
+returns-2 c =
+    let at-inventory = c .before in
+    let at-size = at-inventory .before .before in
+    let at-polarity-at = at-size .before in
+    let at-choice-at = at-polarity-at .before in
+    let at-if1 = at-choice-at .before in
+    let at-is-known = at-if1 .before in
+    let at-start = at-is-known .before .before in
+    let a = at-start .args in
+    rw (is-known _ _ _ (at-is-known .is-known .ensures) (at-if1 .if1 .left))
+    (returned-yes
+    (sym (ap sized (at-inventory .inventory .given .1)) ∙ at-size .size .ensures
+    ∙ ap2 (sizeOf (a .words .now) (a .len)) (at-polarity-at .polarity-at .ensures) (at-choice-at .choice-at .ensures))
+    refl)
 
 returns-3 : tie.Need-returns-3
 unfolding sizeC
-returns-3 c = let a = c .before .before .before .before .before .before .before .before .before .before .args in
-    rw (is-known _ _ _ (c .before .before .before .before .before .before .before .before .is-known .ensures) (c .before .before .before .before .before .before .before .if1 .left))
-    (returned-no (sym (ap sized (c .before .before .refusal .given .1)) ∙ c .before .before .before .before .size .ensures ∙ ap2 (sizeOf (a .words .now) (a .len)) (c .before .before .before .before .before .polarity-at .ensures) (c .before .before .before .before .before .before .choice-at .ensures)) (c .status .ensures))
+returns-3 c =
+    let at-refusal = c .before .before in
+    let at-size = at-refusal .before .before in
+    let at-polarity-at = at-size .before in
+    let at-choice-at = at-polarity-at .before in
+    let at-if1 = at-choice-at .before in
+    let at-is-known = at-if1 .before in
+    let at-start = at-is-known .before .before in
+    let a = at-start .args in
+    rw (is-known _ _ _ (at-is-known .is-known .ensures) (at-if1 .if1 .left))
+    (returned-no
+    (sym (ap sized (at-refusal .refusal .given .1)) ∙ at-size .size .ensures
+    ∙ ap2 (sizeOf (a .words .now) (a .len)) (at-polarity-at .polarity-at .ensures) (at-choice-at .choice-at .ensures))
+    (c .status .ensures))
 
 pub edge-index-size-spec : {M : Type 1} → statement M
 edge-index-size-spec =

@@ -1,3 +1,4 @@
+-- Where the first comparison fails, so does the whole; where it holds, the second speaks for it.
 use borrow.Author.Tests.{le-leb, lt-leb}
 use Rattle.edge_index_c.specs.Codes.{known}
 use Rattle.edge_index_c.proofs.is_known.Statement.{statement}

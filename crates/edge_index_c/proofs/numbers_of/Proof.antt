@@ -1,3 +1,4 @@
+-- The first number is what `polarity_code` returns; the other seven are the summary's own.
 use borrow.Author.Needs.{needs}
 use Rattle.edge_index_c.specs.Codes.{numbersOf}
 use Rattle.edge_index_c.proofs.numbers_of.Statement.{statement}
@@ -17,7 +18,9 @@ cast-t7 c = search needs
 
 returns : tie.Need-returns
 unfolding numbersOf
-returns c = rw (c .before .before .before .polarity-code .ensures)
+returns c =
+    let at-polarity-code = c .before .before .before in
+    rw (at-polarity-code .polarity-code .ensures)
 
 pub numbers-of-spec : {M : Type 1} → statement M
 numbers-of-spec = tie.close (tie.spec polarity-code-requires cast-t5 cast-t6 cast-t7 returns)

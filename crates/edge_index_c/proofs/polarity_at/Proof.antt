@@ -1,3 +1,4 @@
+-- The one test is the definition's.
 use borrow.Author.Tests.{eq-eqb, ne-eqb}
 use Rattle.edge_index_c.specs.Codes.{polarityAt}
 use Rattle.edge_index_c.proofs.polarity_at.Statement.{statement}

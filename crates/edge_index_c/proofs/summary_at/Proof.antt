@@ -1,3 +1,4 @@
+-- The eight reads lie within the array; the polarity and the three logarithms are what `polarity_at` and `cut` return.
 use borrow.Author.Needs.{needs}
 use Rattle.edge_index_c.specs.Codes.{summaryAt}
 use Rattle.edge_index_c.proofs.summary_at.Statement.{statement}
@@ -41,7 +42,12 @@ element-copy-out-t24 c = search needs
 
 returns : tie.Need-returns
 unfolding summaryAt
-returns c = rw (c .before .before .before .before .before .before .before .before .before .before .polarity-at .ensures, c .before .before .before .before .before .before .cut .ensures, c .before .before .before .before .cut2 .ensures, c .before .before .cut3 .ensures)
+returns c =
+    let at-cut3 = c .before .before in
+    let at-cut2 = at-cut3 .before .before in
+    let at-cut = at-cut2 .before .before in
+    let at-polarity-at = at-cut .before .before .before .before in
+    rw (at-polarity-at .polarity-at .ensures, at-cut .cut .ensures, at-cut2 .cut2 .ensures, at-cut3 .cut3 .ensures)
 
 pub summary-at-spec : {M : Type 1} → statement M
 summary-at-spec =

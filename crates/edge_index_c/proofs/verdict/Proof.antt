@@ -1,3 +1,4 @@
+-- Each arm is the definition at what the match tells.
 use borrow.Author.Needs.{needs}
 use Rattle.edge_index_c.proofs.verdict.Statement.{statement}
 use Rattle.edge_index_c.proofs.verdict.Tie as tie

@@ -1,3 +1,4 @@
+-- `from` stays within the text and no slice changes its length, so that each part is in bounds and the rest falls.
 use mathlib.Core.Path.{_≡_}
 use Prim.Native.Nat.{_-_, _≤_}
 use lib.ListN.{length}

@@ -1,3 +1,4 @@
+-- `i` stays within the line, whose length no write changes; the rest falls.
 use mathlib.Core.Path.{_≡_}
 use Prim.Native.Nat.{_-_, _≤_}
 use lib.ListN.{length}

@@ -1,3 +1,4 @@
+-- The gathered bytes lie within the buffer, as `gather` ensures; so their part can be lent.
 use borrow.Author.Needs.{needs}
 use Rattle.find_edge_lib.proofs.run.Statement.{statement}
 use Rattle.find_edge_lib.proofs.run.Tie as tie

@@ -1,3 +1,4 @@
+-- `i` stays at most 1024, and the rest falls.
 use Prim.Native.Nat.{_-_, _≤_}
 use borrow.Author.Needs.{needs}
 use Rattle.find_edge_lib.proofs.show_edges.Statement.{statement}

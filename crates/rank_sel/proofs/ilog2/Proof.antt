@@ -1,3 +1,4 @@
+-- The leading zeros and the place of the highest one make 63 (`leading`); of 0 the logarithm is 0.
 use mathlib.Core.Path.{_≡_}
 use Prim.Native.Nat.{ℕ, _-_, _^_, _≤_, _<_}
 use native.Mathlib.Nat.{pos-of-ne-zero}

@@ -1,3 +1,4 @@
+-- 1 shifted up by a k below 64 is 2^k (`shl-one`).
 use borrow.Author.Needs.{needs}
 use Rattle.rank_sel.proofs.Shift.{shl-one}
 use Rattle.rank_sel.proofs.pow2.Statement.{statement}

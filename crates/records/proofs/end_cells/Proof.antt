@@ -1,3 +1,4 @@
+-- `i` stays within the cells, and the rest falls.
 use Prim.Native.Nat.{_-_, _≤_}
 use native.Mathlib.Omega.{arith}
 use lib.ListN.{length}

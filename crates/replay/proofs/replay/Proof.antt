@@ -1,3 +1,4 @@
+-- Each turn moves the place on, so that the rest falls, and leaves the two lengths as they were.
 use mathlib.Core.Path.{_≡_}
 use Prim.Native.Nat.{_-_}
 use borrow.Author.Needs.{needs}

@@ -1,3 +1,4 @@
+-- By what `read_next` ensures, a case's parts lie in the list and end behind the place; else the list's end lies behind it.
 use borrow.Author.Needs.{needs}
 use Rattle.replay.proofs.replay_next.Statement.{statement}
 use Rattle.replay.proofs.replay_next.Tie as tie

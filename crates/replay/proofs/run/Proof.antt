@@ -1,3 +1,4 @@
+-- The numbers are at most the list's length, so that their part can be lent and is as long as that (`length-take`).
 use native.Mathlib.Omega.{arith}
 use lib.ListN.{length-take}
 use borrow.Author.Needs.{needs}

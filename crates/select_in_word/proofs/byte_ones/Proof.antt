@@ -1,3 +1,4 @@
+-- Nibbles stay at most twice their mask, so that the additions fit; `byte-ones` says what each byte then holds.
 use native.Mathlib.Omega.{arith}
 use Rattle.select_in_word.proofs.ByteOnes.{pairs, pairs-fits, nibbles-le, byte-ones}
 use Rattle.select_in_word.proofs.byte_ones.Statement.{statement}

@@ -1,3 +1,4 @@
+-- The count is the definition's; a word of 64 bits has at most 64 ones.
 use mathlib.Core.Path.{refl}
 use native.Mathlib.Omega.{arith}
 use lib.Count.{ones-le}

@@ -1,3 +1,4 @@
+-- The bytes with their top bits set are no less than what is taken off; `above-first` reads the number from the trailing zeros.
 use native.Mathlib.Omega.{arith}
 use borrow.Author.Needs.{needs}
 use Rattle.select_in_word.proofs.FirstAbove.{trailing-fits, topped-ge, above-first}

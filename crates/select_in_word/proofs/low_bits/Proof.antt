@@ -1,3 +1,4 @@
+-- The mask is 2^n - 1, and what it keeps is the rest by 2^n (`low-mask`).
 use lib.Pow.{pow-pos}
 use borrow.Author.Needs.{needs}
 use Rattle.rank_sel.proofs.Shift.{shl-one}

@@ -1,3 +1,4 @@
+-- Each return is the side of `cond` that the test takes.
 use borrow.Author.Needs.{needs}
 use Rattle.select_in_word.proofs.mask_tail_word.Statement.{statement}
 use Rattle.select_in_word.proofs.mask_tail_word.Tie as tie

@@ -1,3 +1,4 @@
+-- The bytes together stay below 256, so that the three additions fit and, by `sums`, each byte is its running sum.
 use Rattle.select_in_word.proofs.Sums.{pairs-fits, quads-fits, sums-fits, sums}
 use Rattle.select_in_word.proofs.running_sums.Statement.{statement}
 use Rattle.select_in_word.proofs.running_sums.Tie as tie

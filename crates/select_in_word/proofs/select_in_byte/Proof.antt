@@ -1,3 +1,4 @@
+-- Byte and rank make a slot of the table, whose entries are the rule's by computation (`table-at`); none is over 8.
 use native.Mathlib.Omega.{arith}
 use Rattle.rank_sel.specs.Seek.{seek}
 use Rattle.select_in_word.specs.Bit.{bit}

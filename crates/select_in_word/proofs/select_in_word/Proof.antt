@@ -1,3 +1,5 @@
+-- The rank at `at` and what remains make the rank asked for: a byte with more ones than remain has the position by the table,
+-- any other is passed. At 64 the rank is too large.
 use mathlib.Core.Path.{_≡_, ap}
 use Prim.Native.Nat.{_+_, _-_, _/_, _%_, _^_, _≤_}
 use native.Mathlib.Omega.{arith}
@@ -30,26 +32,38 @@ count-ones-requires c κs = tt
 
 select-in-byte-requires : tie.Need-select-in-byte-requires Inv-loop μ-loop
 select-in-byte-requires c κs =
-    let w = c .before .before .before .before .args .word in
-    let h = holds-byte w (c .before .before .before .loop .at) in
-    omega (arith, ones-le 8 (bitAnd (w / 2 ^ (c .before .before .before .loop .at)) 255) (h .small), c .before .count-ones .ensures .exact)
+    let at-count-ones = c .before in
+    let at-loop = at-count-ones .before .before in
+    let at-start = at-loop .before in
+    let w = at-start .args .word in
+    let h = holds-byte w (at-loop .loop .at) in
+    omega (arith, ones-le 8 (bitAnd (w / 2 ^ (at-loop .loop .at)) 255) (h .small), at-count-ones .count-ones .ensures .exact)
 
 add-t10 : tie.Need-add-t10 Inv-loop μ-loop
 add-t10 c =
-    let w = c .before .before .before .before .before .args .word in
-    omega (arith, byte-le (bitAnd (w / 2 ^ (c .before .before .before .before .loop .at)) 255) (c .before .before .before .before .loop .remaining), c .select-in-byte .ensures)
+    let at-loop = c .before .before .before .before in
+    let at-start = at-loop .before in
+    let w = at-start .args .word in
+    omega (arith, byte-le (bitAnd (w / 2 ^ (at-loop .loop .at)) 255) (at-loop .loop .remaining), c .select-in-byte .ensures)
 
 returns : tie.Need-returns Inv-loop μ-loop
 returns c =
-    let w = c .before .before .before .before .before .args .word in
-    let r = c .before .before .before .before .before .args .rank in
-    let p = c .before .before .before .before .loop .at in
-    let k = c .before .before .before .before .loop .remaining in
+    let at-if1 = c .before in
+    let at-count-ones = at-if1 .before in
+    let at-loop = at-count-ones .before .before in
+    let at-start = at-loop .before in
+    let a = at-start .args in
+    let w = a .word in
+    let r = a .rank in
+    let p = at-loop .loop .at in
+    let k = at-loop .loop .remaining in
     let b = bitAnd (w / 2 ^ p) 255 in
     let h = holds-byte w p in
-    let s = holds-sought 8 (bit w) p b k (selectInByte b k) h (byte-sought b k (h .small) (omega (arith, c .before .if1 .taken, c .before .before .count-ones .ensures .exact))) in
+    let s = holds-sought 8 (bit w) p b k (selectInByte b k) h
+    (byte-sought b k (h .small) (omega (arith, at-if1 .if1 .taken, at-count-ones .count-ones .ensures .exact))) in
     rw (c .select-in-byte .ensures)
-    (word-at w r (p + selectInByte b k) (sought-wider (bit w) 8 p k 64 0 r (p + selectInByte b k) s (omega arith) (omega arith) (omega (arith, rank-zero (bit w)))))
+    (word-at w r (p + selectInByte b k)
+    (sought-wider (bit w) 8 p k 64 0 r (p + selectInByte b k) s (omega arith) (omega arith) (omega (arith, rank-zero (bit w)))))
 
 add-at : tie.Need-add-at Inv-loop μ-loop
 add-at c = omega arith
@@ -59,15 +73,21 @@ loop-less c = omega arith
 
 loop-again : tie.Need-loop-again Inv-loop μ-loop
 loop-again c =
-    let w = c .before .before .before .before .args .word in
-    let p = c .before .before .before .loop .at in
-    omega (arith, c .before .count-ones .ensures .exact, holds-ones 8 (bit w) p (bitAnd (w / 2 ^ p) 255) (holds-byte w p))
+    let at-count-ones = c .before in
+    let at-loop = at-count-ones .before .before in
+    let at-start = at-loop .before in
+    let w = at-start .args .word in
+    let p = at-loop .loop .at in
+    omega (arith, at-count-ones .count-ones .ensures .exact, holds-ones 8 (bit w) p (bitAnd (w / 2 ^ p) 255) (holds-byte w p))
 
 returns-2 : tie.Need-returns-2 Inv-loop μ-loop
 returns-2 c =
-    let w = c .before .before .args .word in
-    let e : ranks (bit w) (c .before .loop .at) ≡ ranks (bit w) 64 = ap (ranks (bit w)) (omega arith) in
-    word-refused w (c .before .before .args .rank) (omega arith)
+    let at-loop = c .before in
+    let at-start = at-loop .before in
+    let a = at-start .args in
+    let w = a .word in
+    let e : ranks (bit w) (at-loop .loop .at) ≡ ranks (bit w) 64 = ap (ranks (bit w)) (omega arith) in
+    word-refused w (a .rank) (omega arith)
 
 pub select-in-word-spec : {M : Type 1} → statement M
 select-in-word-spec =

@@ -1,3 +1,4 @@
+-- Computed for each of the 256 bytes (`same-table`); what the mask keeps is no larger than it, so that the addition fits.
 use mathlib.Core.Path.{refl}
 use Prim.Native.Nat.{_+_, _*_, _/_, _^_}
 use native.Mathlib.Omega.{arith}
@@ -19,7 +20,10 @@ add-result c = omega (arith, and-le-r (c .args .byte * 0x0101_0101_0101_0101) 0x
 returns : tie.Need-returns
 unfolding list byteOf bit
 returns c j =
-    same-table (λ b. byteOf (bitAnd ((bitAnd (b * 0x0101_0101_0101_0101) 0x8040_2010_0804_0201 + 0x7f7f_7f7f_7f7f_7f7f) / 2 ^ 7) 0x0101_0101_0101_0101)) (λ b i. ind (bit b i)) refl
+    same-table
+    (λ b. byteOf
+    (bitAnd ((bitAnd (b * 0x0101_0101_0101_0101) 0x8040_2010_0804_0201 + 0x7f7f_7f7f_7f7f_7f7f) / 2 ^ 7) 0x0101_0101_0101_0101))
+    (λ b i. ind (bit b i)) refl
     (c .args .byte) j (c .pre)
 
 pub spread-spec : {M : Type 1} → statement M

@@ -1,3 +1,4 @@
+-- The full word shifted down by 64 - residual is the mask (`mask-shr`); for 0 it stays full.
 use native.Mathlib.Omega.{arith}
 use borrow.Author.Needs.{needs}
 use Rattle.select_in_word.proofs.Tail.{mask-shr}

@@ -1,3 +1,4 @@
+-- S is what the two calls of `saturating_sub` return.
 use borrow.Author.Needs.{needs}
 use Rattle.spacing.proofs.with_both.Statement.{statement}
 use Rattle.spacing.proofs.with_both.Tie as tie

@@ -1,3 +1,4 @@
+-- In each arm the choice is what the match tells, and the plan is what that rule's function returns.
 use borrow.Author.Needs.{needs}
 use Rattle.spacing.proofs.with_choice.Statement.{statement}
 use Rattle.spacing.proofs.with_choice.Tie as tie
@@ -36,16 +37,24 @@ returns : tie.Need-returns
 returns c = rw (c .before .enum-told .given .1) (c .with-span .ensures)
 
 returns-2 : tie.Need-returns-2
-returns-2 c = rw (c .before .before .choice .given .1) (c .with-span2 .ensures)
+returns-2 c =
+    let at-choice = c .before .before in
+    rw (at-choice .choice .given .1) (c .with-span2 .ensures)
 
 returns-3 : tie.Need-returns-3
-returns-3 c = rw (c .before .before .choice2 .given .1) (c .with-inv .ensures)
+returns-3 c =
+    let at-choice2 = c .before .before in
+    rw (at-choice2 .choice2 .given .1) (c .with-inv .ensures)
 
 returns-4 : tie.Need-returns-4
-returns-4 c = rw (c .before .before .choice3 .given .1) (c .with-overhead .ensures)
+returns-4 c =
+    let at-choice3 = c .before .before in
+    rw (at-choice3 .choice3 .given .1) (c .with-overhead .ensures)
 
 returns-5 : tie.Need-returns-5
-returns-5 c = rw (c .before .before .choice4 .given .1) (c .with-fixed .ensures)
+returns-5 c =
+    let at-choice4 = c .before .before in
+    rw (at-choice4 .choice4 .given .1) (c .with-fixed .ensures)
 
 pub with-choice-spec : {M : Type 1} → statement M
 with-choice-spec =

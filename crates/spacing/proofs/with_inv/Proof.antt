@@ -1,3 +1,4 @@
+-- Each return tells the first refusal that holds; past both, the plan is what `with_max` returns.
 use borrow.Author.Tests.{lt-ltb, le-ltb}
 use borrow.Author.Needs.{needs}
 use Rattle.spacing.specs.Spacing.{planFor, chosenPlan}
@@ -17,7 +18,10 @@ with-max-requires c κs = search needs
 
 returns-3 : tie.Need-returns-3
 unfolding chosenPlan planFor
-returns-3 c = rw (c .with-max .ensures) (simp (le-ltb _ _ (c .before .before .if1 .left), le-ltb _ _ (c .before .if2 .left)))
+returns-3 c =
+    let at-if2 = c .before in
+    let at-if1 = at-if2 .before in
+    rw (c .with-max .ensures) (simp (le-ltb _ _ (at-if1 .if1 .left), le-ltb _ _ (at-if2 .if2 .left)))
 
 pub with-inv-spec : {M : Type 1} → statement M
 with-inv-spec = tie.close (tie.spec returns returns-2 with-max-requires returns-3)

@@ -1,3 +1,4 @@
+-- What the calls return makes the capped M, and the plan is what `with_both` returns for it.
 use mathlib.Core.Path.{_∙_}
 use borrow.Author.Needs.{needs}
 use Rattle.spacing.specs.Spacing.{cappedLog2Words}
@@ -28,9 +29,21 @@ with-both-requires c κs = search needs
 returns : tie.Need-returns
 unfolding cappedLog2Words
 returns c =
-    let m = c .before .before .before .before in
+    let at-min2 = c .before in
+    let at-min = at-min2 .before in
+    let at-saturating-sub2 = at-min .before in
+    let at-saturating-sub = at-saturating-sub2 .before in
+    let at-ceil-log2 = at-saturating-sub .before in
+    let at-max = at-ceil-log2 .before in
     c .with-both .ensures
-    ∙ rw (c .before .min2 .ensures, c .before .before .min .ensures, c .before .before .before .saturating-sub2 .ensures, m .saturating-sub .ensures, m .before .ceil-log2 .ensures, m .before .before .max .ensures)
+    ∙ rw (
+      at-min2 .min2 .ensures,
+      at-min .min .ensures,
+      at-saturating-sub2 .saturating-sub2 .ensures,
+      at-saturating-sub .saturating-sub .ensures,
+      at-ceil-log2 .ceil-log2 .ensures,
+      at-max .max .ensures,
+    )
 
 pub with-max-spec : {M : Type 1} → statement M
 with-max-spec =

@@ -1,3 +1,4 @@
+-- Each return tells the first refusal that holds; past both, L is that of the overhead's span and `with_max` plans.
 use mathlib.Core.Path.{sym, _∙_}
 use borrow.Author.Tests.{lt-ltb, le-ltb, not-true, not-false}
 use borrow.Author.Needs.{needs}
@@ -15,7 +16,9 @@ is-positive-requires c κs = search needs
 returns-2 : tie.Need-returns-2
 unfolding chosenPlan
 returns-2 c =
-    simp (le-ltb _ _ (c .before .before .if1 .left), sym (c .before .is-positive .ensures) ∙ not-true _ (c .if2 .taken))
+    let at-is-positive = c .before in
+    let at-if1 = at-is-positive .before in
+    simp (le-ltb _ _ (at-if1 .if1 .left), sym (at-is-positive .is-positive .ensures) ∙ not-true _ (c .if2 .taken))
 
 target-span-from-overhead-requires : tie.Need-target-span-from-overhead-requires
 target-span-from-overhead-requires c κs = search needs
@@ -29,9 +32,13 @@ with-max-requires c κs = search needs
 returns-3 : tie.Need-returns-3
 unfolding chosenPlan planFor
 returns-3 c =
-    let p = c .before .before .before in
-    rw (c .with-max .ensures, c .before .span-log2 .ensures, c .before .before .target-span-from-overhead .ensures)
-    (simp (le-ltb _ _ (p .before .before .if1 .left), sym (p .before .is-positive .ensures) ∙ not-false _ (p .if2 .left)))
+    let at-span-log2 = c .before in
+    let at-target-span-from-overhead = at-span-log2 .before in
+    let at-if2 = at-target-span-from-overhead .before in
+    let at-is-positive = at-if2 .before in
+    let at-if1 = at-is-positive .before in
+    rw (c .with-max .ensures, at-span-log2 .span-log2 .ensures, at-target-span-from-overhead .target-span-from-overhead .ensures)
+    (simp (le-ltb _ _ (at-if1 .if1 .left), sym (at-is-positive .is-positive .ensures) ∙ not-false _ (at-if2 .if2 .left)))
 
 pub with-overhead-spec : {M : Type 1} → statement M
 with-overhead-spec =

@@ -1,3 +1,4 @@
+-- L is never over 63 (`span-most`), so that only the maximum can be refused; past its test the plan is what `with_max` returns.
 use mathlib.Core.Bool.{false}
 use mathlib.Core.Path.{_≡_}
 use lib.Dec.{ltb}
@@ -25,8 +26,11 @@ with-max-requires c κs = search needs
 returns-2 : tie.Need-returns-2
 unfolding chosenPlan planFor
 returns-2 c =
-    rw (c .with-max .ensures, c .before .span-log2 .ensures)
-    (simp (small (c .before .before .before), le-ltb _ _ (c .before .before .if1 .left)))
+    let at-span-log2 = c .before in
+    let at-if1 = at-span-log2 .before in
+    let at-start = at-if1 .before in
+    rw (c .with-max .ensures, at-span-log2 .span-log2 .ensures)
+    (simp (small at-start, le-ltb _ _ (at-if1 .if1 .left)))
 
 pub with-span-spec : {M : Type 1} → statement M
 with-span-spec = tie.close (tie.spec returns span-log2-requires with-max-requires returns-2)

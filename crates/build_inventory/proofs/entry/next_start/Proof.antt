@@ -1,3 +1,4 @@
+-- 2^L selected bits on from the entry's first one stands the next entry's, or there is none (`bound-next`).
 use mathlib.Core.Path.{ap, _∙_}
 use Prim.Native.Nat.{_^_}
 use lib.Pow.{pow-mono}
@@ -12,16 +13,25 @@ pow2-requires : tie.Need-pow2-requires
 pow2-requires c κs = search needs
 
 seek-far-requires : tie.Need-seek-far-requires
-seek-far-requires c κs = (c .before .before .pre .0 .admitted, rw (c .pow2 .ensures) (pow-mono (c .before .before .pre .0 .smallL)))
+seek-far-requires c κs =
+    let at-start = c .before .before in
+    let r = at-start .pre in
+    (r .0 .admitted, rw (c .pow2 .ensures) (pow-mono (r .0 .smallL)))
 
 or-end-requires : tie.Need-or-end-requires
 or-end-requires c κs = search needs
 
 returns : tie.Need-returns
 returns c =
-    let a = c .before .before .before .before .args in
-    let r = c .before .before .before .before .pre in
-    c .or-end .ensures ∙ ap (orEnd (a .plan)) (c .before .seek-far .ensures) ∙ bound-next (a .words .now) (a .plan) (r .0) (a .first) (2 ^ L (a .plan)) (a .start) (c .before .before .pow2 .result) (r .1) (r .2) (c .before .before .pow2 .ensures)
+    let at-seek = c .before in
+    let at-ones = at-seek .before in
+    let at-start = at-ones .before .before in
+    let a = at-start .args in
+    let r = at-start .pre in
+    let o = at-ones .pow2 in
+    c .or-end .ensures
+    ∙ ap (orEnd (a .plan)) (at-seek .seek-far .ensures)
+    ∙ bound-next (a .words .now) (a .plan) (r .0) (a .first) (2 ^ L (a .plan)) (a .start) (o .result) (r .1) (r .2) (o .ensures)
 
 pub next-start-spec : {M : Type 1} → statement M
 next-start-spec = tie.close (tie.spec pow2-requires seek-far-requires or-end-requires returns)

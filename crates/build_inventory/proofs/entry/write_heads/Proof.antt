@@ -14,7 +14,10 @@ same-length : tie.Need-same-length
 same-length c = search needs
 
 returns : tie.Need-returns
-returns c = c .before .before .write-cell2 .ensures ∙ rw (c .before .before .before .before .before .before .write-cell .ensures)
+returns c =
+    let at-second = c .before .before in
+    let at-first = at-second .before .before .before .before in
+    at-second .write-cell2 .ensures ∙ rw (at-first .write-cell .ensures)
 
 pub write-heads-spec : {M : Type 1} → statement M
 write-heads-spec = tie.close (tie.spec write-cell-requires write-cell-requires-2 same-length returns)

@@ -1,3 +1,4 @@
+-- A seek from the record's begin finds the bit of rank 0, or the end where nothing is selected (`bound-first`).
 use mathlib.Core.Path.{ap, _∙_}
 use native.Mathlib.Omega.{arith}
 use borrow.Author.Needs.{needs}
@@ -14,8 +15,10 @@ or-end-requires c κs = search needs
 
 returns : tie.Need-returns
 returns c =
-    let a = c .before .before .before .args in
-    c .or-end .ensures ∙ ap (orEnd (a .plan)) (c .before .seek-far .ensures) ∙ bound-first (a .words .now) (a .plan) (c .before .before .before .pre)
+    let at-seek = c .before in
+    let at-start = at-seek .before .before in
+    let a = at-start .args in
+    c .or-end .ensures ∙ ap (orEnd (a .plan)) (at-seek .seek-far .ensures) ∙ bound-first (a .words .now) (a .plan) (at-start .pre)
 
 pub first-start-spec : {M : Type 1} → statement M
 first-start-spec = tie.close (tie.spec seek-far-requires or-end-requires returns)

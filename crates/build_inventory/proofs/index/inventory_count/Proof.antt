@@ -1,4 +1,6 @@
-use mathlib.Core.Path.{ap}
+-- The count is n * cells + 1, which is at most `most` exactly where n is at most (most - 1) / cells: no product can wrap.
+use mathlib.Core.Path.{_≡_, ap}
+use Prim.Native.Nat.{_+_, _*_, _≤_}
 use native.Mathlib.Omega.{arith}
 use borrow.Author.Tests.{lt-ltb, le-ltb}
 use borrow.Author.Needs.{needs}
@@ -8,9 +10,26 @@ use Rattle.build_inventory.proofs.Turns.{len-over, len-within}
 use Rattle.build_inventory.proofs.index.inventory_count.Statement.{statement}
 use Rattle.build_inventory.proofs.index.inventory_count.Tie as tie
 
+-- the count is within the bound
+module _ (c : tie.Else2) where
+  abbrev at-cells : tie.After-entry-len
+  at-cells = c .before
+
+  abbrev at-count : tie.After-entry-count
+  at-count = at-cells .before
+
+  abbrev at-start : tie.Start
+  at-start = at-count .before .before
+
+  within : (at-count .entry-count .result * at-cells .entry-len .result + 1 ≡ inventoryLenOf (at-start .args .plan))
+      × (at-count .entry-count .result * at-cells .entry-len .result + 1 ≤ at-start .args .most)
+  within =
+      let a = at-start .args in
+      len-within (a .plan) (a .most) (omega arith) (at-count .entry-count .ensures) (at-cells .entry-len .ensures) (c .if2 .left)
+
 returns : tie.Need-returns
 unfolding inventoryLenOf
-returns c = let p = c .before .args .plan in rw (lt-ltb (c .before .args .most) (inventoryLenOf p) (omega arith))
+returns c = let a = c .before .args in rw (lt-ltb (a .most) (inventoryLenOf (a .plan)) (omega arith))
 
 entry-count-requires : tie.Need-entry-count-requires
 entry-count-requires c κs = search needs
@@ -26,19 +45,23 @@ div-if2 c = search needs
 
 returns-2 : tie.Need-returns-2
 returns-2 c =
-    let a = c .before .before .before .before .args in
-    rw (lt-ltb (a .most) (inventoryLenOf (a .plan)) (len-over (a .plan) (a .most) (c .before .before .entry-count .result) (c .before .entry-len .result) (omega arith) (c .before .before .entry-count .ensures) (c .before .entry-len .ensures) (c .if2 .taken)))
+    let at-cells = c .before in
+    let at-count = at-cells .before in
+    let at-start = at-count .before .before in
+    let a = at-start .args in
+    let l = len-over (a .plan) (a .most) (omega arith) (at-count .entry-count .ensures) (at-cells .entry-len .ensures) (c .if2 .taken) in
+    rw (lt-ltb (a .most) (inventoryLenOf (a .plan)) l)
 
 mul-t7 : tie.Need-mul-t7
-mul-t7 c = record { fits = omega (arith, len-within (c .before .before .before .before .args .plan) (c .before .before .before .before .args .most) (c .before .before .entry-count .result) (c .before .entry-len .result) (omega arith) (c .before .before .entry-count .ensures) (c .before .entry-len .ensures) (c .if2 .left)) }
+mul-t7 c = record { fits = omega (arith, within c) }
 
 add-t8 : tie.Need-add-t8
-add-t8 c = record { fits = omega (arith, len-within (c .before .before .before .before .args .plan) (c .before .before .before .before .args .most) (c .before .before .entry-count .result) (c .before .entry-len .result) (omega arith) (c .before .before .entry-count .ensures) (c .before .entry-len .ensures) (c .if2 .left)) }
+add-t8 c = record { fits = omega (arith, within c) }
 
 returns-3 : tie.Need-returns-3
 returns-3 c =
-    let a = c .before .before .before .before .args in
-    let w = len-within (a .plan) (a .most) (c .before .before .entry-count .result) (c .before .entry-len .result) (omega arith) (c .before .before .entry-count .ensures) (c .before .entry-len .ensures) (c .if2 .left) in
+    let a = at-start c .args in
+    let w = within c in
     rw (le-ltb (a .most) (inventoryLenOf (a .plan)) (omega arith)) (ap answer (w .0))
 
 pub inventory-count-spec : {M : Type 1} → statement M

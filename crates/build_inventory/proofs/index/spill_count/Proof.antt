@@ -1,3 +1,4 @@
+-- After e turns the sum is that of the entries before e; it is small, since these spill at most one cell for each of their ranks.
 use mathlib.Core.Path.{_≡_, ap, _∙_}
 use Prim.Native.Nat.{_+_, _^_, _-_, _<_}
 use native.Mathlib.Omega.{arith}
@@ -17,36 +18,54 @@ Inv-loop words plan count e₀ spilled₀ start₀ e spilled start = Reached (po
 abbrev μ-loop : tie.MeasureT-loop
 μ-loop words plan count e₀ spilled₀ start₀ e spilled start = count - e
 
--- a turn reaches the next entry
-module _ (c : tie.After-entry-at Inv-loop μ-loop) where
-  below : c .before .before .loop .e < entriesOf (c .before .before .before .before .before .before .args .plan)
-  below = omega (arith, c .before .before .before .before .entry-count .ensures, c .before .loop-test .taken)
+-- in a turn: e is an entry's number
+module _ (c : tie.In-loop Inv-loop μ-loop) where
+  abbrev at-loop : tie.At-loop Inv-loop μ-loop
+  at-loop = c .before
 
-  more : Reached (posIn (c .before .before .before .before .before .before .args .words .now) (c .before .before .before .before .before .before .args .plan)) (c .before .before .before .before .before .before .args .plan) (c .before .before .loop .e + 1) (c .before .before .loop .spilled + c .entry-at .result .spilled) (c .entry-at .result .next)
-  more =
-      let l = c .before .before .loop in
-      reached-more (posIn (c .before .before .before .before .before .before .args .words .now) (c .before .before .before .before .before .before .args .plan)) (c .before .before .before .before .before .before .args .plan) (l .e) (l .spilled) (l .start) (l .inv) below (c .entry-at .result) (c .entry-at .ensures)
+  abbrev at-count : tie.After-entry-count Inv-loop μ-loop
+  at-count = at-loop .before .before
+
+  abbrev at-start : tie.Start Inv-loop μ-loop
+  at-start = at-count .before .before
+
+  below : at-loop .loop .e < entriesOf (at-start .args .plan)
+  below = omega (arith, at-count .entry-count .ensures, c .loop-test .taken)
+
+-- the next entry is reached
+more : (c : tie.After-entry-at Inv-loop μ-loop) →
+    let a = at-start (c .before) .args in
+    let l = at-loop (c .before) .loop in
+    Reached (posIn (a .words .now) (a .plan)) (a .plan) (l .e + 1) (l .spilled + c .entry-at .result .spilled) (c .entry-at .result .next)
+more c = reached-more (at-loop (c .before) .loop .inv) (below (c .before)) (c .entry-at .ensures)
 
 entry-count-requires : tie.Need-entry-count-requires Inv-loop μ-loop
-entry-count-requires c κs = (omega (arith, c .before .pre .admitted .short, c .before .pre .few), c .before .pre .smallL)
+entry-count-requires c κs = let r = c .before .pre in (omega (arith, r .admitted .short, r .few), r .smallL)
 
 first-start-requires : tie.Need-first-start-requires Inv-loop μ-loop
-first-start-requires c κs = c .before .before .pre
+first-start-requires c κs =
+    let at-start = c .before .before in
+    at-start .pre
 
 loop-holds : tie.Need-loop-holds Inv-loop μ-loop
-loop-holds c = reached-none (posIn (c .before .before .before .args .words .now) (c .before .before .before .args .plan)) (c .before .before .before .args .plan) (c .first-start .result) (c .first-start .ensures)
+loop-holds c = reached-none (c .first-start .ensures)
 
 entry-at-requires : tie.Need-entry-at-requires Inv-loop μ-loop
-entry-at-requires c κs = (c .before .before .before .before .before .pre, entry-below (c .before .before .before .before .before .args .plan) (c .before .loop .e) (omega (arith, c .before .before .before .entry-count .ensures, c .loop-test .taken)), c .before .loop .inv .begins)
+entry-at-requires c κs =
+    let l = at-loop c .loop in
+    (at-start c .pre, entry-below (at-start c .args .plan) (l .e) (below c), l .inv .begins)
 
 add-spilled : tie.Need-add-spilled Inv-loop μ-loop
-add-spilled c = record {
-  fits =
-      let p = c .before .before .before .before .before .before .before .args .plan in
-      let e = c .before .before .before .loop .e in
-      let u = pow-mono {i = L p} {j = 63} (c .before .before .before .before .before .before .before .pre .smallL) in
-      omega (arith, more (c .before) .spills, spillStart-few (posIn (c .before .before .before .before .before .before .before .args .words .now) p) p (e + 1), turn-more e (2 ^ L p), entry-below p e (below (c .before)), c .before .before .before .before .before .before .before .pre .few, c .before .before .before .before .before .before .before .pre .admitted .short);
-}
+add-spilled c =
+    let at-entry = c .before in
+    let at-turn = at-entry .before in
+    let a = at-start at-turn .args in
+    let r = at-start at-turn .pre in
+    let e = at-loop at-turn .loop .e in
+    let u = pow-mono {i = L (a .plan)} {j = 63} (r .smallL) in
+    let n = spillStart-few (posIn (a .words .now) (a .plan)) (a .plan) (e + 1) in
+    let m = more at-entry .spills in
+    record { fits = omega (arith, turn-more e (2 ^ L (a .plan)), entry-below (a .plan) e (below at-turn), r .few, r .admitted .short) }
 
 add-e : tie.Need-add-e Inv-loop μ-loop
 add-e c = omega arith
@@ -59,10 +78,13 @@ loop-again c = more (c .before)
 
 returns : tie.Need-returns Inv-loop μ-loop
 returns c =
-    let p = c .before .before .before .before .before .args .plan in
-    let l = c .before .loop in
-    let e : l .e ≡ entriesOf p = omega (arith, c .before .before .before .entry-count .ensures, l .inv .within) in
-    l .inv .spills ∙ ap (spillStart (posIn (c .before .before .before .before .before .args .words .now) p) p) e
+    let at-loop = c .before in
+    let at-count = at-loop .before .before in
+    let at-start = at-count .before .before in
+    let a = at-start .args in
+    let l = at-loop .loop in
+    let e : l .e ≡ entriesOf (a .plan) = omega (arith, at-count .entry-count .ensures, l .inv .within) in
+    l .inv .spills ∙ ap (spillStart (posIn (a .words .now) (a .plan)) (a .plan)) e
 
 pub spill-count-spec : {M : Type 1} → statement M
 spill-count-spec =

@@ -1,3 +1,4 @@
+-- The text is all digits where its rest from i on is: any other byte denies it, a digit is passed, and the empty rest is.
 use mathlib.Core.Path.{sym, _≡_, refl, _∙_}
 use Prim.Native.Nat.{_-_, _≤_}
 use native.Mathlib.Omega.{arith}

@@ -1,3 +1,4 @@
+-- Where the first comparison fails, so does the whole; where it holds, the second speaks for it.
 use borrow.Author.Tests.{le-leb, lt-leb}
 use Rattle.find_edge_input.proofs.number.is_digit.Statement.{statement}
 use Rattle.find_edge_input.proofs.number.is_digit.Tie as tie

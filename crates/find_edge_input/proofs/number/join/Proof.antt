@@ -1,3 +1,4 @@
+-- Each arm is the definition at what the match tells; a number over the most is too large, any other is left to `ratio`.
 use borrow.Author.Tests.{lt-ltb, le-ltb}
 use borrow.Author.Needs.{needs}
 use Rattle.find_edge_input.proofs.number.join.Statement.{statement}

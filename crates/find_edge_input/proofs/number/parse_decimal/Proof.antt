@@ -1,3 +1,4 @@
+-- `decimal-is` says the percentage by its point and the whole part as parsed; each return is then the case that was told.
 use native.Mathlib.Omega.{arith}
 use lib.ListN.{length-take}
 use borrow.Author.Tests.{lt-ltb, le-ltb}

@@ -1,3 +1,4 @@
+-- An empty text and one that is not all digits are no numbers; past both tests the number is what `value` returns.
 use mathlib.Core.Path.{sym, _∙_}
 use borrow.Author.Tests.{eq-eqb, ne-eqb, not-true, not-false}
 use borrow.Author.Needs.{needs}

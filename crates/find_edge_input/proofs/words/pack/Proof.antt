@@ -1,3 +1,4 @@
+-- After i turns the first i words are those of the bytes, and the others as they were; each turn writes one more (`tab-more`).
 use mathlib.Core.Path.{_≡_, refl, ap, _∙_}
 use mathlib.Core.List.{List, _++_}
 use Prim.Native.Nat.{ℕ, _-_, _≤_}

@@ -1,3 +1,4 @@
+-- After j turns the word holds the first j bytes as lanes of 8 bits; the next one fits above them (`cell-fits`, `cell-more`).
 use mathlib.Core.Path.{_≡_, refl, sym, ap, _∙_}
 use Prim.Native.Nat.{_+_, _-_, _*_, _≤_}
 use native.Mathlib.Omega.{arith}

@@ -1,3 +1,4 @@
+-- The bytes so far stay within the buffer, each turn by what `put_argument` ensures; `counts` makes the contract of that.
 use mathlib.Core.Path.{_≡_}
 use Prim.Native.Nat.{_-_, _≤_}
 use lib.ListN.{length}

@@ -1,3 +1,4 @@
+-- `from` stays within the arguments, and the rest falls.
 use Prim.Native.Nat.{_-_, _≤_}
 use lib.ListN.{length}
 use borrow.Author.Needs.{needs}

@@ -1,3 +1,4 @@
+-- The argument is shorter than the room left, so that it and its zero byte end within the buffer.
 use native.Mathlib.Omega.{arith}
 use lib.ListN.{length-set}
 use borrow.Author.Needs.{needs}

@@ -1,3 +1,4 @@
+-- `at` stays at most 2^48 and a chunk's words, so that all fits, and the rest up to 2^48 falls.
 use mathlib.Core.Path.{_≡_}
 use Prim.Native.Nat.{_-_, _≤_}
 use lib.ListN.{length}

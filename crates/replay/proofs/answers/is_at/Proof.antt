@@ -1,3 +1,4 @@
+-- What the match tells is what `select` answers, and the return is `isAt` of that.
 use mathlib.Core.Path.{ap, sym, _∙_}
 use borrow.Author.Needs.{needs}
 use Rattle.rank_sel.specs.Outcome.{answered}

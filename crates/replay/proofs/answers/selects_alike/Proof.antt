@@ -1,10 +1,11 @@
+-- After i turns that agree, i and what is alike in the rest make the whole; one that differs leaves i, and so does the end.
 use Prim.Native.Nat.{_+_, _*_, _-_, _/_, _≤_}
 use mathlib.Core.Path.{_≡_, refl, sym, _∙_}
 use native.Mathlib.Omega.{arith}
 use borrow.Author.Needs.{needs}
 use borrow.Author.Tests.{not-true, not-false}
 use lib.ListN.{length, drop}
-use Rattle.inventory.specs.Read.{selectOf}
+use Rattle.read_inventory.specs.Jump.{selectOf}
 use Rattle.replay.specs.Selects.{selectsAlike}
 use Rattle.replay.proofs.Selects.{selects-next, selects-differ, selects-end}
 use Rattle.replay.proofs.answers.selects_alike.Statement.{statement}

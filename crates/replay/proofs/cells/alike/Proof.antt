@@ -1,3 +1,4 @@
+-- What is alike from i on ends where all from 0 on does; a difference or an end of either is that place.
 use mathlib.Core.Path.{_≡_, refl, sym, _∙_}
 use Prim.Native.Nat.{_-_, _≤_}
 use native.Mathlib.Omega.{arith}

@@ -1,3 +1,4 @@
+-- Compared with as many blanks, what is alike from i on ends where all from `from` on does: at a difference or the end.
 use mathlib.Core.Path.{_≡_, refl, sym, _∙_}
 use Prim.Native.Nat.{_-_}
 use native.Mathlib.Omega.{arith}

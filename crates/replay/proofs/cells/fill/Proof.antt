@@ -1,3 +1,4 @@
+-- After i turns the first i cells are blank and the others as they were; at the end no others are left.
 use mathlib.Core.Path.{_≡_, refl, ap, _∙_}
 use mathlib.Core.List.{List, _++_, append-nil}
 use Prim.Native.Nat.{ℕ, _-_, _≤_}

@@ -1,3 +1,4 @@
+-- Where the first test fails, so does the whole; where it holds, the second speaks for it.
 use borrow.Author.Tests.{eq-eqb, ne-eqb}
 use lib.Ieee.{nanBits}
 use Rattle.replay.proofs.list.is_nan.Statement.{statement}

@@ -1,3 +1,4 @@
+-- A NaN's bits stand for the one NaN (`nan-bits`), as 0 / 0 does (`zero-by-zero`); any other bits are taken as they are.
 use mathlib.Core.Path.{sym, _∙_}
 use borrow.Author.Needs.{needs}
 use Rattle.replay.proofs.Nan.{nan-bits, zero-by-zero}

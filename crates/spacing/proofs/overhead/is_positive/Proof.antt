@@ -1,3 +1,4 @@
+-- Above 0 it is finite where it is below the infinity (`above-zero`); what is not above 0 is not positive.
 use lib.Ieee.{ofBits, div}
 use Rattle.spacing.proofs.Floats.{above-zero, not-above-zero}
 use Rattle.spacing.proofs.overhead.is_positive.Statement.{statement}

@@ -18,16 +18,21 @@ float-to-bits-bits : tie.Need-float-to-bits-bits
 float-to-bits-bits c = is-number _ (c .if1 .left)
 
 returns-2 : tie.Need-returns-2
-returns-2 c = cut-negative _ _ ∙ ap (toUnsigned 64) (sign-set _ (c .before .before .good .0 .1) (omega arith))
+returns-2 c =
+    let at-start = c .before .before in
+    cut-negative _ _ ∙ ap (toUnsigned 64) (sign-set _ (at-start .good .0 .1) (omega arith))
 
 returns-3 : tie.Need-returns-3
-returns-3 c = cut-below-one _ _ (omega arith) (omega arith) ∙ ap (toUnsigned 64) (sign-clear _ (c .before .before .before .good .0 .1) (omega arith))
+returns-3 c =
+    let at-start = c .before .before .before in
+    cut-below-one _ _ (omega arith) (omega arith) ∙ ap (toUnsigned 64) (sign-clear _ (at-start .good .0 .1) (omega arith))
 
 returns-4 : tie.Need-returns-4
 returns-4 c =
-    let n = c .before .before .before in
-    let f = sign-clear _ (n .before .good .0 .1) (omega arith) in
-    cut-top _ _ (omega arith) (rw f (is-number _ (n .if1 .left))) ∙ ap (toUnsigned 64) f
+    let at-if1 = c .before .before .before in
+    let at-start = at-if1 .before in
+    let f = sign-clear _ (at-start .good .0 .1) (omega arith) in
+    cut-top _ _ (omega arith) (rw f (is-number _ (at-if1 .if1 .left))) ∙ ap (toUnsigned 64) f
 
 add-result : tie.Need-add-result
 add-result c = search needs
@@ -36,7 +41,9 @@ shr-result : tie.Need-shr-result
 shr-result c = search needs
 
 returns-5 : tie.Need-returns-5
-returns-5 c = cut-normal _ _ (omega arith) (omega arith) (omega arith) ∙ ap (toUnsigned 64) (sign-clear _ (c .before .before .before .before .good .0 .1) (omega arith))
+returns-5 c =
+    let at-start = c .before .before .before .before in
+    cut-normal _ _ (omega arith) (omega arith) (omega arith) ∙ ap (toUnsigned 64) (sign-clear _ (at-start .good .0 .1) (omega arith))
 
 pub saturating-f64-to-u64-spec : {M : Type 1} → statement M
 saturating-f64-to-u64-spec =

@@ -1,3 +1,4 @@
+-- The shift gives a power of two within the largest M, so that all fits; what the calls return makes the definition.
 use mathlib.Core.Path.{_∙_}
 use Prim.Native.Nat.{ℕ, _*_, _%_, _^_, _≤_}
 use native.Mathlib.Omega.{arith}
@@ -25,7 +26,9 @@ saturating-f64-to-u64-requires : tie.Need-saturating-f64-to-u64-requires
 saturating-f64-to-u64-requires c κs = search needs
 
 mul-max : tie.Need-mul-max
-mul-max c = omega (arith, power _ (c .before .before .pre))
+mul-max c =
+    let at-start = c .before .before in
+    omega (arith, power _ (at-start .pre))
 
 max-requires : tie.Need-max-requires
 max-requires c κs = search needs
@@ -33,9 +36,16 @@ max-requires c κs = search needs
 returns : tie.Need-returns
 unfolding overheadSpan overheadTarget ofBits ofInt
 returns c =
-    let a = c .before .before .before .args in
+    let at-saturating-f64-to-u64 = c .before in
+    let at-nearest-u64-to-f64 = at-saturating-f64-to-u64 .before in
+    let at-start = at-nearest-u64-to-f64 .before in
+    let a = at-start .args in
     c .max .ensures
-    ∙ rw (c .before .saturating-f64-to-u64 .ensures, c .before .before .nearest-u64-to-f64 .ensures, shl-one (a .max-log2-words) (omega arith))
+    ∙ rw (
+      at-saturating-f64-to-u64 .saturating-f64-to-u64 .ensures,
+      at-nearest-u64-to-f64 .nearest-u64-to-f64 .ensures,
+      shl-one (a .max-log2-words) (omega arith),
+    )
 
 pub target-span-from-overhead-spec : {M : Type 1} → statement M
 target-span-from-overhead-spec =

@@ -1,3 +1,4 @@
+-- L is at most l throughout, at the start by `span-most`: each comparison finds it or lowers l (`span-turn`), and at 0 it is 0.
 use Prim.Native.Nat.{_≤_, _<_}
 use native.Mathlib.Omega.{arith}
 use lib.Pow.{pow-pos}
@@ -14,16 +15,28 @@ Inv-loop num span len num-bits product l₀ l = (l < 64) × (spanLog2 num span l
 abbrev μ-loop : tie.MeasureT-loop
 μ-loop num span len num-bits product l₀ l = l
 
-turn :
-    (c : tie.After-wide-less Inv-loop μ-loop)
-    → let a = c .before .before .before .before .before .before .args in
-    Turn (a .num) (a .span) (a .len) (c .before .before .before .loop .l) (c .wide-less .result)
-turn c =
-    let i = c .before .before .before .loop .inv in
-    span-turn _ _ _ _ _ _ _ _ (i .0) (c .before .before .before .before .before .max .ensures) (c .before .wide-mul2 .ensures)
-    (c .before .before .before .before .wide-mul .ensures)
-    (c .wide-less .ensures)
-    (i .1)
+module _ (c : tie.After-wide-less Inv-loop μ-loop) where
+  abbrev at-loop : tie.At-loop Inv-loop μ-loop
+  at-loop = c .before .before .before
+
+  abbrev at-wide-mul : tie.After-wide-mul Inv-loop μ-loop
+  at-wide-mul = at-loop .before
+
+  abbrev at-max : tie.After-max Inv-loop μ-loop
+  at-max = at-wide-mul .before
+
+  abbrev at-start : tie.Start Inv-loop μ-loop
+  at-start = at-max .before
+
+  turn :
+      let a = at-start .args in
+      Turn (a .num) (a .span) (a .len) (at-loop .loop .l) (c .wide-less .result)
+  turn =
+      let i = at-loop .loop .inv in
+      span-turn _ _ _ _ _ _ _ _ (i .0) (at-max .max .ensures) (c .before .wide-mul2 .ensures)
+      (at-wide-mul .wide-mul .ensures)
+      (c .wide-less .ensures)
+      (i .1)
 
 max-requires : tie.Need-max-requires Inv-loop μ-loop
 max-requires c κs = search needs
@@ -32,7 +45,9 @@ wide-mul-requires : tie.Need-wide-mul-requires Inv-loop μ-loop
 wide-mul-requires c κs = search needs
 
 loop-holds : tie.Need-loop-holds Inv-loop μ-loop
-loop-holds c = (omega arith, span-most _ _ _ (c .before .before .pre) (c .before .before .fits .span .fits))
+loop-holds c =
+    let at-start = c .before .before in
+    (omega arith, span-most _ _ _ (at-start .pre) (at-start .fits .span .fits))
 
 cast-wide-mul : tie.Need-cast-wide-mul Inv-loop μ-loop
 cast-wide-mul c = search needs
@@ -61,7 +76,10 @@ loop-less : tie.Need-loop-less Inv-loop μ-loop
 loop-less c = search needs
 
 loop-again : tie.Need-loop-again Inv-loop μ-loop
-loop-again c = (search needs, turn (c .before) .passed (c .if1 .left) (c .before .before .before .loop-test .taken))
+loop-again c =
+    let at-wide-less = c .before in
+    let at-loop-test = at-wide-less .before .before in
+    (search needs, turn at-wide-less .passed (c .if1 .left) (at-loop-test .loop-test .taken))
 
 returns-2 : tie.Need-returns-2 Inv-loop μ-loop
 returns-2 c = let h = c .before .loop .inv .1 in omega arith

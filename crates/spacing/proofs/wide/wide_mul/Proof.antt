@@ -1,3 +1,4 @@
+-- The four products of the halves are at most (2^32 - 1)^2, so that the steps fit; together they make the whole (`whole`).
 use native.Mathlib.Omega.{arith}
 use borrow.Author.Needs.{needs}
 use Rattle.spacing.proofs.Products.{Halves, halves, whole}

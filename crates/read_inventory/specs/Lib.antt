@@ -1,0 +1,4 @@
+pub mod Read
+pub mod Tests
+pub mod Jump
+pub mod Steps
