@@ -22,6 +22,8 @@ pub admitted-none : (ws : List ℕ) (len : ℕ) → Admitted ws len → NoneOf (
 admitted-none ws len a = (le-ltb (2 ^ 62 - 1) len (omega (arith, a .short)), (le-ltb (length ws) (ceilDiv len 64) (a .held), tt))
 
 -- where a count answers, it is N
-pub counted : (ws : List ℕ) (len : ℕ) (pol : Polarity) (n : ℕ) → countOf ws len pol ≡ answer n → Admitted ws len × (numSelected pol ws len ≡ n)
+pub counted : (ws : List ℕ) (len : ℕ) (pol : Polarity) (n : ℕ) → countOf ws len pol ≡ answer n
+    → Admitted ws len × (numSelected pol ws len ≡ n)
 unfolding countOf
-counted ws len pol n e = let p = passed-all (ofRecord ws len) (answer (numSelected pol ws len)) n e in (admitted ws len (p .0), answer-is (p .1))
+counted ws len pol n e =
+    let p = passed-all (ofRecord ws len) (answer (numSelected pol ws len)) n e in (admitted ws len (p .0), answer-is (p .1))

@@ -45,7 +45,8 @@ selected-out pol ws len p h = simp (le-ltb p len h)
 
 pub selected-lt : (pol : Polarity) (ws : List ℕ) (len p : ℕ) → selected pol ws len p ≡ true → p < len
 selected-lt pol ws len p e =
-    ⊎-elim (λ (h : p < len). h) (λ (h : len ≤ p). let f = selected-out pol ws len p h in let z : _≡_ {A = ℕ} 0 1 = cc in absurd (omega arith)) (lt-or-le p len)
+    ⊎-elim (λ (h : p < len). h)
+    (λ (h : len ≤ p). let f = selected-out pol ws len p h in let z : _≡_ {A = ℕ} 0 1 = cc in absurd (omega arith)) (lt-or-le p len)
 
 -- bit j of word i
 word-bit : (pol : Polarity) (ws : List ℕ) (len i j : ℕ) → getD ws i 0 < 2 ^ 64 → j < 64 → 64 * i + j < len
@@ -71,7 +72,8 @@ holds-tail pol ws len i r h e l = record {
   small = lt-of-lt-of-le (mod-lt (complemented pol (getD ws i 0)) (pow-pos r)) (pow-mono {i = r} {j = 64} (omega arith));
   bits = λ j k. ⊎-elim
       (λ (s : j < r). bit-low (complemented pol (getD ws i 0)) r j s ∙ word-bit pol ws len i j h k (omega arith))
-      (λ (s : r ≤ j). bit-past (complemented pol (getD ws i 0) % 2 ^ r) r j (mod-lt (complemented pol (getD ws i 0)) (pow-pos r)) s ∙ sym (selected-out pol ws len (64 * i + j) (omega arith)))
+      (λ (s : r ≤ j). bit-past (complemented pol (getD ws i 0) % 2 ^ r) r j (mod-lt (complemented pol (getD ws i 0)) (pow-pos r)) s
+      ∙ sym (selected-out pol ws len (64 * i + j) (omega arith)))
       (lt-or-le j r);
 }
 
@@ -81,10 +83,13 @@ pub holds-word : (pol : Polarity) (ws : List ℕ) (len i : ℕ) → getD ws i 0 
 holds-word pol ws len i h k = ⊎-elim
     (λ (l : 64 < len - 64 * i). rw (lt-leb (len - 64 * i) 64 l) (holds-full pol ws len i h (omega arith)))
     (λ (l : len - 64 * i ≤ 64). rw (le-leb (len - 64 * i) 64 l) (⊎-elim
-    (λ (r : 0 < len % 64). rw (and-tail (complemented pol (getD ws i 0)) (len % 64) r) (holds-tail pol ws len i (len % 64) h (omega arith) (omega arith)))
+    (λ (r : 0 < len % 64). rw (and-tail (complemented pol (getD ws i 0)) (len % 64) r)
+    (holds-tail pol ws len i (len % 64) h (omega arith) (omega arith)))
     (λ (r : len % 64 ≤ 0).
     let e : len % 64 ≡ 0 = omega arith in
-    rw e (rw (and-mask (complemented pol (getD ws i 0)) 64) (rw (mod-eq-of-lt (complemented-lt pol (getD ws i 0) h)) (holds-full pol ws len i h (omega arith)))))
+    rw e
+    (rw (and-mask (complemented pol (getD ws i 0)) 64)
+    (rw (mod-eq-of-lt (complemented-lt pol (getD ws i 0) h)) (holds-full pol ws len i h (omega arith)))))
     (lt-or-le 0 (len % 64))))
     (lt-or-le 64 (len - 64 * i))
 
@@ -95,15 +100,22 @@ unfolding numSelected
 rank-num pol ws len p h = rank-flat (selected pol ws len) len p h (selected-out pol ws len)
 
 pub words-none : (pol : Polarity) (ws : List ℕ) (i : ℕ) → CountsWords pol ws i 0 0
-words-none pol ws i = record { exact = λ len l. add-zero (rank (selected pol ws len) (64 * i)) ∙ ap (rank (selected pol ws len)) (omega arith) }
+words-none pol ws i =
+    record { exact = λ len l. add-zero (rank (selected pol ws len) (64 * i)) ∙ ap (rank (selected pol ws len)) (omega arith) }
 
 -- one word more
 pub words-more : (pol : Polarity) (ws : List ℕ) (i m n : ℕ) → CountsWords pol ws i m n → getD ws (i + m) 0 < 2 ^ 64
     → CountsWords pol ws i (m + 1) (n + ones (complemented pol (getD ws (i + m) 0)))
 words-more pol ws i m n v h = record {
   exact = λ len l.
-      let e : rank (selected pol ws len) (64 * (i + (m + 1))) ≡ rank (selected pol ws len) (64 * (i + m) + 64) = ap (rank (selected pol ws len)) (omega arith) in
-      omega (arith, v .exact len (omega arith), holds-ones 64 (selected pol ws len) (64 * (i + m)) (complemented pol (getD ws (i + m) 0)) (holds-full pol ws len (i + m) h (omega arith)));
+      let e : rank (selected pol ws len) (64 * (i + (m + 1))) ≡ rank (selected pol ws len) (64 * (i + m) + 64) =
+      ap (rank (selected pol ws len)) (omega arith) in
+      omega (
+        arith,
+        v .exact len (omega arith),
+        holds-ones 64 (selected pol ws len) (64 * (i + m)) (complemented pol (getD ws (i + m) 0))
+            (holds-full pol ws len (i + m) h (omega arith)),
+      );
 }
 
 pub words-most : (pol : Polarity) (ws : List ℕ) (i m n : ℕ) → CountsWords pol ws i m n → n ≤ 64 * (i + m)

@@ -39,7 +39,9 @@ record-none pol ws len from k p l r =
 sought-narrow : (m w k p : ℕ) → w < 2 ^ m → Sought (bit w) 64 0 k p → Sought (bit w) m 0 k p
 sought-narrow m w k p h s = record {
   low = s .low;
-  high = ⊎-elim (λ (g : p < m). omega arith) (λ (g : m ≤ p). let b = bit-past w m p h g in let t = s .here in let z : _≡_ {A = ℕ} 0 1 = cc in absurd (omega arith)) (lt-or-le p m);
+  high =
+      ⊎-elim (λ (g : p < m). omega arith)
+      (λ (g : m ≤ p). let b = bit-past w m p h g in let t = s .here in let z : _≡_ {A = ℕ} 0 1 = cc in absurd (omega arith)) (lt-or-le p m);
   here = s .here;
   before = s .before;
 }
@@ -53,7 +55,9 @@ module _ (f : ℕ → Bool) (p w k : ℕ) (h : Holds 64 f (64 * (p / 64)) w) whe
   held = holds-from f p w h
 
   pub from-found : (q : ℕ) → inl q ≡ seekInWord (w / 2 ^ (p % 64)) k → Sought f m p k (p + q)
-  from-found q e = holds-sought m f p (w / 2 ^ (p % 64)) k q held (sought-narrow m (w / 2 ^ (p % 64)) k q (held .small) (word-seek-found (w / 2 ^ (p % 64)) k q e))
+  from-found q e =
+      holds-sought m f p (w / 2 ^ (p % 64)) k q held
+      (sought-narrow m (w / 2 ^ (p % 64)) k q (held .small) (word-seek-found (w / 2 ^ (p % 64)) k q e))
 
   pub from-passed : (n : ℕ) → inr n ≡ seekInWord (w / 2 ^ (p % 64)) k → (n ≤ k) × (rank f (p + m) ≡ rank f p + n)
   from-passed n e =

@@ -53,11 +53,14 @@ module _ (len : ℕ) (ws vs : List ℕ) (s : SameRecord len ws vs) where
 
   -- the bit of each rank
   pos-same : (p : Parameters) → p .len ≡ len → posIn ws p ≡ posIn vs p
-  pos-same p e = ap (λ (f : ℕ → Bool). select f (p .len)) (selected-same (p .len) ws vs (subst (λ (n : ℕ). SameRecord n ws vs) (sym e) s) (p .polarity))
+  pos-same p e =
+      ap (λ (f : ℕ → Bool). select f (p .len))
+      (selected-same (p .len) ws vs (subst (λ (n : ℕ). SameRecord n ws vs) (sym e) s) (p .polarity))
 
   -- the sizes of an index, by the bit of each rank
   abbrev fit : (ℕ → ℕ) → Parameters → ℕ → Outcome Sizes
-  fit f p most = refuseIf (ltb most (inventoryLenOf p)) 6 (answer (record { inventory = inventoryLenOf p; spill = spillStart f p (entriesOf p) }))
+  fit f p most =
+      refuseIf (ltb most (inventoryLenOf p)) 6 (answer (record { inventory = inventoryLenOf p; spill = spillStart f p (entriesOf p) }))
 
   -- what follows a plan depends on the words by the bit of each rank
   then-same : {A : Type 0} (pol : Polarity) (choice : Choice) (go : (ℕ → ℕ) → Parameters → Outcome A)
@@ -69,7 +72,8 @@ module _ (len : ℕ) (ws vs : List ℕ) (s : SameRecord len ws vs) where
       at (answer p) e d = rw (sym d ∙ e, e) (ap (λ (f : ℕ → ℕ). go f p) (pos-same p (plan-facts ws len pol choice p e .length)))
       at (refused n) e d = rw (sym d ∙ e, e)
 
-  build-same : (pol : Polarity) (choice : Choice) (cells spill : ℕ) → buildOf ws len pol choice cells spill ≡ buildOf vs len pol choice cells spill
+  build-same : (pol : Polarity) (choice : Choice) (cells spill : ℕ)
+      → buildOf ws len pol choice cells spill ≡ buildOf vs len pol choice cells spill
   unfolding buildOf buildFrom fitted
   build-same pol choice cells spill = then-same pol choice
       (λ f p. andThen (fit f p cells) (λ s. refuseIf (ltb spill (s .spill)) 7 (answer (summaryOf f p))))
@@ -80,7 +84,8 @@ module _ (len : ℕ) (ws vs : List ℕ) (s : SameRecord len ws vs) where
       ≡ byOutcome (λ t. after (posIn vs (t .plan)) t) else (buildOf vs len pol choice cells spill)
   after-same {X} pol choice cells spill after else = at (buildOf ws len pol choice cells spill) refl (build-same pol choice cells spill)
     where
-      at : (o : Outcome Summary) → buildOf ws len pol choice cells spill ≡ o → buildOf ws len pol choice cells spill ≡ buildOf vs len pol choice cells spill
+      at : (o : Outcome Summary) → buildOf ws len pol choice cells spill ≡ o
+          → buildOf ws len pol choice cells spill ≡ buildOf vs len pol choice cells spill
           → byOutcome (λ t. after (posIn ws (t .plan)) t) else (buildOf ws len pol choice cells spill)
           ≡ byOutcome (λ t. after (posIn vs (t .plan)) t) else (buildOf vs len pol choice cells spill)
       at (answer t) e d =
@@ -88,20 +93,23 @@ module _ (len : ℕ) (ws vs : List ℕ) (s : SameRecord len ws vs) where
           rw (sym d ∙ e, e) (ap (λ (f : ℕ → ℕ). after f t) (pos-same (t .plan) (c .length)))
       at (refused n) e d = rw (sym d ∙ e, e)
 
-  check-same : (pol : Polarity) (choice : Choice) (t : Summary) (inv sp : List ℕ) → checkOf ws len pol choice t inv sp ≡ checkOf vs len pol choice t inv sp
+  check-same : (pol : Polarity) (choice : Choice) (t : Summary) (inv sp : List ℕ)
+      → checkOf ws len pol choice t inv sp ≡ checkOf vs len pol choice t inv sp
   unfolding checkOf
   check-same pol choice t inv sp =
       by-then (buildOf ws len pol choice (length inv) (length sp)) _
       ∙ after-same pol choice (length inv) (length sp) (λ f u. answer (sameSummary t u && sameIndex f (u .plan) inv sp)) refused
       ∙ sym (by-then (buildOf vs len pol choice (length inv) (length sp)) _)
 
-  inventory-same : (pol : Polarity) (choice : Choice) (inv sp : List ℕ) → inventoryHolds ws len pol choice inv sp ≡ inventoryHolds vs len pol choice inv sp
+  inventory-same : (pol : Polarity) (choice : Choice) (inv sp : List ℕ)
+      → inventoryHolds ws len pol choice inv sp ≡ inventoryHolds vs len pol choice inv sp
   inventory-same pol choice inv sp =
       by-inventory ws inv (buildOf ws len pol choice (length inv) (length sp))
       ∙ after-same pol choice (length inv) (length sp) (λ f t. inventoryOf f (t .plan) ++ drop (t .«inventory_len») inv) (λ n. inv)
       ∙ sym (by-inventory vs inv (buildOf vs len pol choice (length inv) (length sp)))
 
-  spill-same : (pol : Polarity) (choice : Choice) (inv sp : List ℕ) → spillHolds ws len pol choice inv sp ≡ spillHolds vs len pol choice inv sp
+  spill-same : (pol : Polarity) (choice : Choice) (inv sp : List ℕ)
+      → spillHolds ws len pol choice inv sp ≡ spillHolds vs len pol choice inv sp
   spill-same pol choice inv sp =
       by-spill ws sp (buildOf ws len pol choice (length inv) (length sp))
       ∙ after-same pol choice (length inv) (length sp) (λ f t. spillOf f (t .plan) ++ drop (t .«spill_len») sp) (λ n. sp)
@@ -112,7 +120,8 @@ module _ (len : ℕ) (ws vs : List ℕ) (s : SameRecord len ws vs) where
     here : SameRecord (t .plan .len) ws vs
     here = subst (λ (n : ℕ). SameRecord n ws vs) (sym e) s
 
-    tests-same : {A : Type 0} (cs : Conditions) (rest : Outcome A) → refuseBy (ofIndex ws t inv sp ++ cs) rest ≡ refuseBy (ofIndex vs t inv sp ++ cs) rest
+    tests-same : {A : Type 0} (cs : Conditions) (rest : Outcome A)
+        → refuseBy (ofIndex ws t inv sp ++ cs) rest ≡ refuseBy (ofIndex vs t inv sp ++ cs) rest
     tests-same cs rest = rw (words-same (t .plan .len) ws vs here)
 
     position-same : (r : ℕ) → positionOf ws t inv sp r ≡ positionOf vs t inv sp r

@@ -69,16 +69,20 @@ module _ (ws : List ℕ) (len : ℕ) (pol : Polarity) (choice : Choice) where
     held-sound : (a b : List ℕ) → Sound ws len pol choice t (inventory t ++ a) (spilled t ++ b)
     held-sound a b =
         let e = pos-same ws len pol choice p (m .planned) in
-        let w : Placed (bitOf ws len pol) p (inventory t ++ a) (spilled t ++ b) = subst (λ (f : ℕ → ℕ). Placed f p (inventory t ++ a) (spilled t ++ b)) e (placed (posIn ws p) p a b) in
-        let s : spillStart (bitOf ws len pol) p (entriesOf p) ≡ length (spilled t) = ap (λ (f : ℕ → ℕ). spillStart f p (entriesOf p)) (sym e) ∙ sym (length-spill (posIn ws p) p) in
-        subst (λ (z : Summary). Sound ws len pol choice z (inventory t ++ a) (spilled t ++ b)) (sym (m .is ∙ ap (λ (f : ℕ → ℕ). summaryOf f p) e))
+        let w : Placed (bitOf ws len pol) p (inventory t ++ a) (spilled t ++ b) =
+        subst (λ (f : ℕ → ℕ). Placed f p (inventory t ++ a) (spilled t ++ b)) e (placed (posIn ws p) p a b) in
+        let s : spillStart (bitOf ws len pol) p (entriesOf p) ≡ length (spilled t) = ap (λ (f : ℕ → ℕ). spillStart f p (entriesOf p))
+        (sym e) ∙ sym (length-spill (posIn ws p) p) in
+        subst (λ (z : Summary). Sound ws len pol choice z (inventory t ++ a) (spilled t ++ b))
+        (sym (m .is ∙ ap (λ (f : ℕ → ℕ). summaryOf f p) e))
         (placed-sound ws len pol choice p (m .planned) (inventory t ++ a) (spilled t ++ b) w
         (omega (arith, length-append (inventory t) a, length-inventory (posIn ws p) p)) (omega (arith, length-append (spilled t) b, s)))
 
     -- any cells that begin with the index are said yes to
     held-yes : (inv sp : List ℕ) → t .«inventory_len» ≤ length inv → t .«spill_len» ≤ length sp
         → take (t .«inventory_len») inv ≡ inventory t → take (t .«spill_len») sp ≡ spilled t → Yes t inv sp
-    held-yes inv sp a b i s = record { builds = admitted-on ws len pol choice cells spill t m (length inv) (length sp) a b; inventory-is = i; spill-is = s }
+    held-yes inv sp a b i s =
+        record { builds = admitted-on ws len pol choice cells spill t m (length inv) (length sp) a b; inventory-is = i; spill-is = s }
 
     left-yes : (a b : List ℕ) → Yes t (inventory t ++ a) (spilled t ++ b)
     left-yes a b = held-yes (inventory t ++ a) (spilled t ++ b)
@@ -86,12 +90,14 @@ module _ (ws : List ℕ) (len : ℕ) (pol : Polarity) (choice : Choice) where
         (take-at (inventory t) a (t .«inventory_len») inventory-long) (take-at (spilled t) b (t .«spill_len») spill-long)
 
   -- ---- where a yes comes from
-  admits : (t : Summary) (inv sp : List ℕ) → buildAnswers ws len pol choice inv sp ≡ answer t → Admission ws len pol choice (length inv) (length sp) t
+  admits : (t : Summary) (inv sp : List ℕ) → buildAnswers ws len pol choice inv sp ≡ answer t
+      → Admission ws len pol choice (length inv) (length sp) t
   admits t inv sp e = admission ws len pol choice (length inv) (length sp) t e
 
   built-yes : (t : Summary) (inv sp : List ℕ) → buildAnswers ws len pol choice inv sp ≡ answer t
       → Yes t (inventoryHolds ws len pol choice inv sp) (spillHolds ws len pol choice inv sp)
-  built-yes t inv sp e = rw e (left-yes t (length inv) (length sp) (admits t inv sp e) (drop (t .«inventory_len») inv) (drop (t .«spill_len») sp))
+  built-yes t inv sp e =
+      rw e (left-yes t (length inv) (length sp) (admits t inv sp e) (drop (t .«inventory_len») inv) (drop (t .«spill_len») sp))
 
   checked-yes : (t : Summary) (inv sp : List ℕ) → checkOf ws len pol choice t inv sp ≡ answer true → Yes t inv sp
   unfolding checkOf sameIndex
@@ -107,7 +113,8 @@ module _ (ws : List ℕ) (len : ℕ) (pol : Polarity) (choice : Choice) where
         spill-is = ap (λ (n : ℕ). take n sp) (sym (spill-counted ws u (m .is))) ∙ same-is _ _ (z .1);
       }
 
-  same-yes-cells : (t : Summary) (inv sp inv′ sp′ : List ℕ) → Yes t inv sp → SameCells (t .«inventory_len») inv inv′ → SameCells (t .«spill_len») sp sp′ → Yes t inv′ sp′
+  same-yes-cells : (t : Summary) (inv sp inv′ sp′ : List ℕ) → Yes t inv sp → SameCells (t .«inventory_len») inv inv′
+      → SameCells (t .«spill_len») sp sp′ → Yes t inv′ sp′
   same-yes-cells t inv sp inv′ sp′ y i s =
       held-yes t (length inv) (length sp) (admits t inv sp (y .builds)) inv′ sp′ (i .held′) (s .held′)
       (cells-take _ inv inv′ i ∙ y .inventory-is) (cells-take _ sp sp′ s ∙ y .spill-is)
@@ -128,9 +135,11 @@ module _ (ws : List ℕ) (len : ℕ) (pol : Polarity) (choice : Choice) where
   yes-sound t inv sp y =
       let i = begins (t .«inventory_len») inv (inventory t) (y .inventory-is) in
       let s = begins (t .«spill_len») sp (spilled t) (y .spill-is) in
-      rw (i, s) at (held-sound t (length inv) (length sp) (admits t inv sp (y .builds)) (drop (t .«inventory_len») inv) (drop (t .«spill_len») sp))
+      rw (i, s) at
+      (held-sound t (length inv) (length sp) (admits t inv sp (y .builds)) (drop (t .«inventory_len») inv) (drop (t .«spill_len») sp))
 
-  check-refusal : (t : Summary) (inv sp : List ℕ) (n : ℕ) → (checkOf ws len pol choice t inv sp ≡ refused n) ↔ (buildAnswers ws len pol choice inv sp ≡ refused n)
+  check-refusal : (t : Summary) (inv sp : List ℕ) (n : ℕ)
+      → (checkOf ws len pol choice t inv sp ≡ refused n) ↔ (buildAnswers ws len pol choice inv sp ≡ refused n)
   unfolding checkOf
   check-refusal t inv sp n = then-refused (buildAnswers ws len pol choice inv sp) _ n
 
@@ -144,8 +153,10 @@ stands ws len pol choice vs t inv sp s y =
     record { yes = c; sound = d; right = right vs len pol choice t inv sp d }
 
 module _ (ws : List ℕ) (len : ℕ) (pol : Polarity) (choice : Choice) where
-  as-then : (t : Summary) (inv sp vs inv′ sp′ : List ℕ) → Yes ws len pol choice t inv sp → AsThen len t ws inv sp vs inv′ sp′ → Stands vs len pol choice t inv′ sp′
-  as-then t inv sp vs inv′ sp′ y a = stands ws len pol choice vs t inv′ sp′ (a .words) (same-yes-cells ws len pol choice t inv sp inv′ sp′ y (a .inventory) (a .spill))
+  as-then : (t : Summary) (inv sp vs inv′ sp′ : List ℕ) → Yes ws len pol choice t inv sp → AsThen len t ws inv sp vs inv′ sp′
+      → Stands vs len pol choice t inv′ sp′
+  as-then t inv sp vs inv′ sp′ y a =
+      stands ws len pol choice vs t inv′ sp′ (a .words) (same-yes-cells ws len pol choice t inv sp inv′ sp′ y (a .inventory) (a .spill))
 
   pub promises : Promises ws len pol choice
   promises = record {

@@ -34,7 +34,8 @@ some-none n e = let z : _≡_ {A = ℕ} 0 1 = cc in absurd (omega arith)
 pub in-rest : {A : Type 0} (o : Outcome A) → InOrder o [] o
 in-rest o = record { first = λ n e. some-none n (sym e); else = λ e. refl }
 
-pub in-refuse : {A : Type 0} (b : Bool) (n : ℕ) (o rest : Outcome A) (cs : Conditions) → InOrder o cs rest → InOrder (refuseIf b n o) ((b, n) ∷ cs) rest
+pub in-refuse : {A : Type 0} (b : Bool) (n : ℕ) (o rest : Outcome A) (cs : Conditions) → InOrder o cs rest
+    → InOrder (refuseIf b n o) ((b, n) ∷ cs) rest
 in-refuse true n o rest cs h = record { first = λ m e. let d : n ≡ m = cc in ap refused d; else = λ e. some-none n e }
 in-refuse false n o rest cs h = record { first = h .first; else = h .else }
 
@@ -47,10 +48,13 @@ in-tests (c ∷ cs) rest = in-refuse (c .0) (c .1) (refuseBy cs rest) rest cs (i
 pub in-then : {A B : Type 0} (o : Outcome A) (cs ds : Conditions) (a : A) (go : A → Outcome B) (rest : Outcome B)
     → InOrder o cs (answer a) → InOrder (go a) ds rest → InOrder (andThen o go) (cs ++ ds) rest
 in-then o [] ds a go rest h k = let e = h .else refl in rw e k
-in-then o (c ∷ cs) ds a go rest h k = step (c .0) refl (λ f. in-then o cs ds a go rest (record { first = λ n e. h .first n (rw f e); else = λ e. h .else (rw f e) }) k)
+in-then o (c ∷ cs) ds a go rest h k =
+    step (c .0) refl (λ f. in-then o cs ds a go rest (record { first = λ n e. h .first n (rw f e); else = λ e. h .else (rw f e) }) k)
   where
     step : (b : Bool) → c .0 ≡ b → (c .0 ≡ false → InOrder (andThen o go) (cs ++ ds) rest) → InOrder (andThen o go) (c ∷ (cs ++ ds)) rest
-    step true f ih = let e = h .first (c .1) (rw f refl) in record { first = λ n g. rw e (let d : c .1 ≡ n = some-is (rw f at g) in ap refused d); else = λ g. some-none (c .1) (rw f at g) }
+    step true f ih =
+        let e = h .first (c .1) (rw f refl) in
+        record { first = λ n g. rw e (let d : c .1 ≡ n = some-is (rw f at g) in ap refused d); else = λ g. some-none (c .1) (rw f at g) }
       where
         some-is : {x y : ℕ} → _≡_ {A = Option ℕ} (some x) (some y) → x ≡ y
         some-is e = cc
@@ -72,17 +76,20 @@ module _ (ws : List ℕ) (len : ℕ) (pol : Polarity) (choice : Choice) where
   unfolding fitted
   in-fit most = in-tests ((ltb most (inventoryLenOf p), 6) ∷ []) _
 
-  in-from : (cells spill : ℕ) → InOrder (buildFrom ws p cells spill) ((ltb cells (inventoryLenOf p), 6) ∷ (ltb spill (spillLenOf ws p), 7) ∷ [])
+  in-from : (cells spill : ℕ)
+      → InOrder (buildFrom ws p cells spill) ((ltb cells (inventoryLenOf p), 6) ∷ (ltb spill (spillLenOf ws p), 7) ∷ [])
       (answer (summaryIn ws len pol choice))
   unfolding buildFrom
   in-from cells spill = in-then _ _ _ sizes _ _ (in-fit cells) (in-tests ((ltb spill (spillLenOf ws p), 7) ∷ []) _)
 
-  in-build : (cells spill : ℕ) → InOrder (buildOf ws len pol choice cells spill) (toSeven ws len pol choice cells spill) (answer (summaryIn ws len pol choice))
+  in-build : (cells spill : ℕ)
+      → InOrder (buildOf ws len pol choice cells spill) (toSeven ws len pol choice cells spill) (answer (summaryIn ws len pol choice))
   unfolding buildOf summaryOf
   in-build cells spill = in-then _ (recordOrder ws len ++ choiceOrder ws len pol choice) _ p _ _ in-plan (in-from cells spill)
 
   -- an answer that goes on to no more tests
-  in-last : {A B : Type 0} (o : Outcome A) (cs : Conditions) (a : A) (go : A → B) → InOrder o cs (answer a) → InOrder (andThen o (λ x. answer (go x))) cs (answer (go a))
+  in-last : {A B : Type 0} (o : Outcome A) (cs : Conditions) (a : A) (go : A → B) → InOrder o cs (answer a)
+      → InOrder (andThen o (λ x. answer (go x))) cs (answer (go a))
   in-last o cs a go h = record { first = λ n e. rw (h .first n e); else = λ e. rw (h .else e) }
 
   pub makers-refuse : MakersRefuse ws len pol choice
@@ -115,7 +122,8 @@ ten-number : (t : Summary) (inv sp : List ℕ) (e : ℕ) (l : Place) → Only10 
 unfolding numberAt
 ten-number t inv sp e start = ten-answer _
 ten-number t inv sp e (own c j) = ten-answer _
-ten-number t inv sp e (over c j) = ten-refuse (leb (t .«spill_len») c) (answer (laneOf (shapeAt t inv e .width) (getD sp c 0) j)) (ten-answer _)
+ten-number t inv sp e (over c j) =
+    ten-refuse (leb (t .«spill_len») c) (answer (laneOf (shapeAt t inv e .width) (getD sp c 0) j)) (ten-answer _)
 
 ten-mark : (t : Summary) (inv sp : List ℕ) (e i : ℕ) → Only10 (markAt t inv sp e i)
 unfolding markAt
@@ -126,7 +134,9 @@ ten-mark t inv sp e i =
 
 ten-rank : (t : Summary) (inv sp : List ℕ) (r : ℕ) → Only10 (markOfRank t inv sp r)
 unfolding markOfRank
-ten-rank t inv sp r = ten-then (markAt t inv sp (entryOfRank t r) (markNumber t inv r)) _ (ten-mark t inv sp (entryOfRank t r) (markNumber t inv r)) (λ p. ten-answer _)
+ten-rank t inv sp r =
+    ten-then (markAt t inv sp (entryOfRank t r) (markNumber t inv r)) _ (ten-mark t inv sp (entryOfRank t r) (markNumber t inv r))
+    (λ p. ten-answer _)
 
 ten-hint : (t : Summary) (inv sp : List ℕ) (r : ℕ) → Only10 (hintAt t inv sp r)
 unfolding hintAt
@@ -140,7 +150,8 @@ ten-position : (ws : List ℕ) (t : Summary) (inv sp : List ℕ) (r : ℕ) → O
 unfolding positionOf
 ten-position ws t inv sp r =
     ten-then (markOfRank t inv sp r) _ (ten-rank t inv sp r)
-    (λ m. ten-cond (m .exact) _ _ (ten-answer (m .at)) (ten-or (seek (selected (t .plan .polarity) ws (t .plan .len)) (t .plan .len - m .at) (m .at) (m .residual))))
+    (λ m. ten-cond (m .exact) _ _ (ten-answer (m .at))
+    (ten-or (seek (selected (t .plan .polarity) ws (t .plan .len)) (t .plan .len - m .at) (m .at) (m .residual))))
 
 ten-dwell : (ws : List ℕ) (t : Summary) (inv sp : List ℕ) (a b : ℕ) → Only10 (dwellAt ws t inv sp a b)
 unfolding dwellAt
@@ -161,7 +172,9 @@ readers-refuse ws t inv sp = record {
   select-10 = ten-position ws t inv sp;
   hint = λ r. in-tests (indexOrder ws t inv sp ++ ((rankTooLarge (N (t .plan)) r, 8) ∷ [])) _;
   hint-10 = ten-hint t inv sp;
-  dwell = λ a b. in-tests (indexOrder ws t inv sp ++ ((rankTooLarge (N (t .plan)) a, 8) ∷ (rankTooLarge (N (t .plan)) b, 8) ∷ (ranksFall a b, 11) ∷ [])) _;
+  dwell =
+      λ a b. in-tests
+      (indexOrder ws t inv sp ++ ((rankTooLarge (N (t .plan)) a, 8) ∷ (rankTooLarge (N (t .plan)) b, 8) ∷ (ranksFall a b, 11) ∷ [])) _;
   dwell-10 = ten-dwell ws t inv sp;
   store = λ r. (store-back ws t inv sp r (hintOf ws t inv sp r) refl, λ h. rw (h .1));
   store-some = store-some ws t inv sp;

@@ -77,7 +77,8 @@ module _ (ws : List ℕ) (len : ℕ) (pol : Polarity) (choice : Choice) (t : Sum
   }
 
   tests-pass : {A : Type 0} (cs : Conditions) (rest : Outcome A) → refuseBy (ofIndex ws t inv sp ++ cs) rest ≡ refuseBy cs rest
-  tests-pass cs rest = tests-more (ofIndex ws t inv sp) cs rest ∙ passing (ofIndex ws t inv sp) (refuseBy cs rest) (index-none ws t inv sp index-held)
+  tests-pass cs rest =
+      tests-more (ofIndex ws t inv sp) cs rest ∙ passing (ofIndex ws t inv sp) (refuseBy cs rest) (index-none ws t inv sp index-held)
 
   -- ---- each rank
   abbrev e : ℕ → ℕ
@@ -155,7 +156,8 @@ module _ (ws : List ℕ) (len : ℕ) (pol : Polarity) (choice : Choice) (t : Sum
       let q : (i - x .from) / x .lanes < 2 ^ M p - x .heads = div-lt-iff-lt-mul (some-lanes pos p k) .1 (omega arith) in
       rw (lt-ltb i (nearBy x (M p)) b) (omega arith))
       (λ (b : nearBy x (M p) ≤ i).
-      let q : (i - nearBy x (M p)) / x .lanes < spilledOf pos p k = div-lt-iff-lt-mul (some-lanes pos p k) .1 (omega (arith, marks-placed pos p k (c .of .spaced) i l)) in
+      let q : (i - nearBy x (M p)) / x .lanes < spilledOf pos p k = div-lt-iff-lt-mul (some-lanes pos p k) .1
+      (omega (arith, marks-placed pos p k (c .of .spaced) i l)) in
       let d = second-right k h (spill-heads pos p k _ q) in
       rw (le-ltb i (nearBy x (M p)) b) (omega (arith, spilled-right k h, d, s .spillLen, sum-part (spilledOf pos p) k (entriesOf p) h)))
       (lt-or-le i (nearBy x (M p)))))
@@ -166,12 +168,14 @@ module _ (ws : List ℕ) (len : ℕ) (pol : Polarity) (choice : Choice) (t : Sum
 
   store-right : (r : ℕ) → r < N p → Within (placeAt t inv (e r) (markNumber t inv r)) (subinventoryOf ws t inv sp r)
   unfolding subinventoryOf storeOf markNumber
-  store-right r h = rw (hint-right r h, s .quanta (e r) (entry-of r h)) (place-in (e r) (sub r / 2 ^ qOf pos p (e r)) (entry-of r h) (mark-number-in r h))
+  store-right r h =
+      rw (hint-right r h, s .quanta (e r) (entry-of r h)) (place-in (e r) (sub r / 2 ^ qOf pos p (e r)) (entry-of r h) (mark-number-in r h))
 
   pub right : Right ws len pol t inv sp
   unfolding selectOf hintOf dwellOf dwellAt
   right = record {
-    select = λ r h. (pos r, tests-pass (ofRank (N p) r) (positionOf ws t inv sp r) ∙ rw (lt-leb (N p) r h) (position-right r h), s .bits r h);
+    select =
+        λ r h. (pos r, tests-pass (ofRank (N p) r) (positionOf ws t inv sp r) ∙ rw (lt-leb (N p) r h) (position-right r h), s .bits r h);
     hint = λ r h. (pos (markOf r), hint-right r h, s .bits (markOf r) (mark-lt r h));
     dwell = λ a b l h. (
       pos a,
@@ -194,5 +198,7 @@ module _ (ws : List ℕ) (len : ℕ) (pol : Polarity) (choice : Choice) (t : Sum
     hintPast = λ r h. tests-pass (ofRank (N p) r) (hintAt t inv sp r) ∙ rw (le-leb (N p) r h);
     dwellPastA = λ a b h. tests-pass (ofRanks (N p) a b) (dwellAt ws t inv sp a b) ∙ rw (le-leb (N p) a h);
     dwellPastB = λ a b l h. tests-pass (ofRanks (N p) a b) (dwellAt ws t inv sp a b) ∙ rw (lt-leb (N p) a l, le-leb (N p) b h);
-    dwellFalls = λ a b l h. tests-pass (ofRanks (N p) a b) (dwellAt ws t inv sp a b) ∙ rw (lt-leb (N p) a h, lt-leb (N p) b (omega arith), lt-ltb b a l);
+    dwellFalls =
+        λ a b l h. tests-pass (ofRanks (N p) a b) (dwellAt ws t inv sp a b)
+        ∙ rw (lt-leb (N p) a h, lt-leb (N p) b (omega arith), lt-ltb b a l);
   }

@@ -87,7 +87,9 @@ module _ (ws : List ℕ) (len : ℕ) (pol : Polarity) (choice : Choice) (p : Par
   before-next e s l = go (ltb (s / 2 ^ qOf pos p e + 1) (marksOf pos p e))
     where
       go : (b : Bool) → e * 2 ^ L p + s < cond b (markRank pos p e (s / 2 ^ qOf pos p e + 1)) (markRank pos p (e + 1) 0)
-      go true = omega (arith, add-mul (s / 2 ^ qOf pos p e) 1 (2 ^ qOf pos p e), div-add-mod' s (2 ^ qOf pos p e), mod-lt s (pow-pos (qOf pos p e)))
+      go true =
+          omega
+          (arith, add-mul (s / 2 ^ qOf pos p e) 1 (2 ^ qOf pos p e), div-add-mod' s (2 ^ qOf pos p e), mod-lt s (pow-pos (qOf pos p e)))
       go false = omega (arith, add-mul e 1 (2 ^ L p), rank-in p e s l)
 
   module _ (inv sp : List ℕ) (w : Placed pos p inv sp) where
@@ -96,7 +98,8 @@ module _ (ws : List ℕ) (len : ℕ) (pol : Polarity) (choice : Choice) (p : Par
 
     -- the mark of subrank s, by its rank
     hint-here : (e s : ℕ) → e < entriesOf p → s < ranksOf p e
-        → hintAt t inv sp (e * 2 ^ L p + s) ≡ answer (record { mark = pos (markRank pos p e (s / 2 ^ qOf pos p e)); rank = markRank pos p e (s / 2 ^ qOf pos p e) })
+        → hintAt t inv sp (e * 2 ^ L p + s)
+        ≡ answer (record { mark = pos (markRank pos p e (s / 2 ^ qOf pos p e)); rank = markRank pos p e (s / 2 ^ qOf pos p e) })
     unfolding mark
     hint-here e s h l = hint-read pos p g (facts .of .spaced) inv sp w e h s l ∙ rw (first-rank pos p e)
 
@@ -126,7 +129,9 @@ module _ (ws : List ℕ) (len : ℕ) (pol : Polarity) (choice : Choice) (p : Par
         let m : markRank pos p e (s / 2 ^ q) + s % 2 ^ q ≡ e * 2 ^ L p + s = omega arith in
         record {
           mark = hint-here e s h l;
-          from = subst (λ (r : ℕ). pos (markRank pos p e (s / 2 ^ q)) ≤ pos r) m (select-le f len (markRank pos p e (s / 2 ^ q)) (s % 2 ^ q) (rw m (num (e * 2 ^ L p + s) a)));
+          from =
+              subst (λ (r : ℕ). pos (markRank pos p e (s / 2 ^ q)) ≤ pos r) m
+              (select-le f len (markRank pos p e (s / 2 ^ q)) (s % 2 ^ q) (rw m (num (e * 2 ^ L p + s) a)));
           next = λ n. g .rises (e * 2 ^ L p + s) (nextRank pos p e (s / 2 ^ q)) (before-next e s l) n;
           passed = omega (arith, bit-rank (e * 2 ^ L p + s) a, bit-rank (markRank pos p e (s / 2 ^ q)) (omega arith));
           few = mod-lt s (pow-pos q);
@@ -148,7 +153,8 @@ module _ (ws : List ℕ) (len : ℕ) (pol : Polarity) (choice : Choice) (p : Par
     start-rank : (e : ℕ) → e < entriesOf p → rank f (startAt t inv e) ≡ e * 2 ^ L p
     start-rank e h = ap (rank f) (starts e h) ∙ bit-rank (e * 2 ^ L p) (entry-in p e h)
 
-    whole : (e : ℕ) → e + 1 < entriesOf p → (rank f (startAt t inv (e + 1)) ≡ rank f (startAt t inv e) + ranksOf p e) × (ranksOf p e ≡ 2 ^ L p)
+    whole : (e : ℕ) → e + 1 < entriesOf p
+        → (rank f (startAt t inv (e + 1)) ≡ rank f (startAt t inv e) + ranksOf p e) × (ranksOf p e ≡ 2 ^ L p)
     unfolding ranksOf
     whole e h =
         let m = add-mul e 1 (2 ^ L p) in
@@ -156,7 +162,8 @@ module _ (ws : List ℕ) (len : ℕ) (pol : Polarity) (choice : Choice) (p : Par
         let r : ranksOf p e ≡ 2 ^ L p = omega arith in
         (omega (arith, start-rank e (omega arith), start-rank (e + 1) h), r)
 
-    last : (e : ℕ) → e + 1 ≡ entriesOf p → (rank f len ≡ rank f (startAt t inv e) + ranksOf p e) × (1 ≤ ranksOf p e) × (ranksOf p e ≤ 2 ^ L p)
+    last : (e : ℕ) → e + 1 ≡ entriesOf p
+        → (rank f len ≡ rank f (startAt t inv e) + ranksOf p e) × (1 ≤ ranksOf p e) × (ranksOf p e ≤ 2 ^ L p)
     unfolding ranksOf numSelected
     last e h =
         let m = add-mul e 1 (2 ^ L p) in

@@ -21,8 +21,142 @@ use Rattle.edge_index.specs.Table.{Agree, table}
 pub table-agrees : Agree table
 unfolding rank seek select bit selectInWord bitAt selected numSelected countOf
     clog2 firstFrom ilog2 cappedLog2Words chosenPlan overheadSpan overheadTarget planFor planOf spanLog2 ofInt mul div toUnsigned
-    bound entriesOf entryFrom entryOf inventoryLenOf inventoryOf inventoryTo lane mark ownCells packed ranksOf spillCells spillOf spillStart spillTo startOf stream summaryOf
+    bound entriesOf entryFrom entryOf inventoryLenOf inventoryOf inventoryTo lane mark ownCells packed ranksOf spillCells spillOf spillStart
+    spillTo startOf stream summaryOf
     laneOf pack sum tabulate
-    cellAt markOfRank dwellAt dwellOf kindAt markAt markNumber numberAt placeAt positionOf quantumAt residual selectOf shapeAt spanAt startAt unlawful
+    cellAt markOfRank dwellAt dwellOf kindAt markAt markNumber numberAt placeAt positionOf quantumAt residual selectOf shapeAt spanAt
+    startAt unlawful
     log2OnesPerSub32 buildFrom buildOf checkOf fitted samePlan sameSummary sameIndex sameList
-table-agrees = (refl, (refl, (refl, (refl, (refl, (refl, (refl, (refl, (refl, (refl, (refl, (refl, (refl, (refl, (refl, (refl, (refl, (refl, (refl, (refl, (refl, (refl, (refl, (refl, (refl, (refl, (refl, (refl, (refl, (refl, (refl, (refl, (refl, (refl, (refl, (refl, (refl, (refl, (refl, (refl, (refl, (refl, (refl, (refl, (refl, (refl, (refl, (refl, (refl, tt)))))))))))))))))))))))))))))))))))))))))))))))))
+table-agrees = (
+  refl,
+  (
+    refl,
+    (
+      refl,
+      (
+        refl,
+        (
+          refl,
+          (
+            refl,
+            (
+              refl,
+              (
+                refl,
+                (
+                  refl,
+                  (
+                    refl,
+                    (
+                      refl,
+                      (
+                        refl,
+                        (
+                          refl,
+                          (
+                            refl,
+                            (
+                              refl,
+                              (
+                                refl,
+                                (
+                                  refl,
+                                  (
+                                    refl,
+                                    (
+                                      refl,
+                                      (
+                                        refl,
+                                        (
+                                          refl,
+                                          (
+                                            refl,
+                                            (
+                                              refl,
+                                              (
+                                                refl,
+                                                (
+                                                  refl,
+                                                  (
+                                                    refl,
+                                                    (
+                                                      refl,
+                                                      (
+                                                        refl,
+                                                        (
+                                                          refl,
+                                                          (
+                                                            refl,
+                                                            (
+                                                              refl,
+                                                              (
+                                                                refl,
+                                                                (
+                                                                  refl,
+                                                                  (
+                                                                    refl,
+                                                                    (
+                                                                      refl,
+                                                                      (
+                                                                        refl,
+                                                                        (
+                                                                          refl,
+                                                                          (
+                                                                            refl,
+                                                                            (
+                                                                              refl,
+                                                                              (
+                                                                                refl,
+                                                                                (
+                                                                                  refl,
+                                                                                  (
+                                                                                    refl,
+                                                                                    (
+                                                                                      refl,
+                                                                                      (
+                                                                                        refl,
+                                                                                        (refl, (refl, (refl, (refl, (refl, tt))))),
+                                                                                      ),
+                                                                                    ),
+                                                                                  ),
+                                                                                ),
+                                                                              ),
+                                                                            ),
+                                                                          ),
+                                                                        ),
+                                                                      ),
+                                                                    ),
+                                                                  ),
+                                                                ),
+                                                              ),
+                                                            ),
+                                                          ),
+                                                        ),
+                                                      ),
+                                                    ),
+                                                  ),
+                                                ),
+                                              ),
+                                            ),
+                                          ),
+                                        ),
+                                      ),
+                                    ),
+                                  ),
+                                ),
+                              ),
+                            ),
+                          ),
+                        ),
+                      ),
+                    ),
+                  ),
+                ),
+              ),
+            ),
+          ),
+        ),
+      ),
+    ),
+  ),
+)

@@ -49,12 +49,16 @@ module _ (pol : Polarity) (len num : ℕ) where
   fixed-cut l m = ⊎-elim (λ (e : cut l ≡ l). ap (λ (z : ℕ). chosenPlan pol len num (fixed z m)) e)
       (λ (h : (63 < cut l) × (63 < l)). simp (lt-ltb 63 (cut l) (h .0), lt-ltb 63 l (h .1))) (cut-cases l)
 
-  chosen-cut : (kind value : ℕ) (percentage : Float) (log2 : ℕ) → chosenPlan pol len num (rule (choiceAt kind value percentage log2)) ≡ chosenPlan pol len num (rule (choiceBy same kind value percentage log2))
+  chosen-cut : (kind value : ℕ) (percentage : Float) (log2 : ℕ)
+      → chosenPlan pol len num (rule (choiceAt kind value percentage log2))
+      ≡ chosenPlan pol len num (rule (choiceBy same kind value percentage log2))
   unfolding choiceAt
   chosen-cut kind value percentage log2 = go (eqb kind 0) (eqb kind 1) (eqb kind 2) (eqb kind 3)
     where
       by : (ℕ → ℕ) → Bool → Bool → Bool → Bool → Choice
-      by f a b c d = cond a Default (cond b (Span value log2) (cond c (Power (f value) log2) (cond d (Overhead percentage log2) (Fixed (f value) log2))))
+      by f a b c d =
+          cond a Default
+          (cond b (Span value log2) (cond c (Power (f value) log2) (cond d (Overhead percentage log2) (Fixed (f value) log2))))
 
       go : (a b c d : Bool) → chosenPlan pol len num (rule (by cut a b c d)) ≡ chosenPlan pol len num (rule (by same a b c d))
       go true b c d = refl
@@ -64,16 +68,20 @@ module _ (pol : Polarity) (len num : ℕ) where
       go false false false false = fixed-cut value log2
 
 module _ (kind value : ℕ) (percentage : Float) (log2 : ℕ) where
-  plan-cut : (ws : List ℕ) (len : ℕ) (pol : Polarity) → planOf ws len pol (choiceAt kind value percentage log2) ≡ planOf ws len pol (choiceBy same kind value percentage log2)
+  plan-cut : (ws : List ℕ) (len : ℕ) (pol : Polarity)
+      → planOf ws len pol (choiceAt kind value percentage log2) ≡ planOf ws len pol (choiceBy same kind value percentage log2)
   unfolding planOf
   plan-cut ws len pol = ap (andThen (countOf ws len pol)) (fun-ext λ num. chosen-cut pol len num kind value percentage log2)
 
   -- what follows a plan
   then-cut : {A : Type 0} (ws : List ℕ) (len : ℕ) (pol : Polarity) (go : Parameters → Outcome A)
-      → andThen (planOf ws len pol (choiceAt kind value percentage log2)) go ≡ andThen (planOf ws len pol (choiceBy same kind value percentage log2)) go
+      → andThen (planOf ws len pol (choiceAt kind value percentage log2)) go
+      ≡ andThen (planOf ws len pol (choiceBy same kind value percentage log2)) go
   then-cut {A} ws len pol go = ap (λ (o : Outcome Parameters). andThen o go) (plan-cut ws len pol)
 
-  build-cut : (ws : List ℕ) (len : ℕ) (pol : Polarity) (cells spill : ℕ) → buildOf ws len pol (choiceAt kind value percentage log2) cells spill ≡ buildOf ws len pol (choiceBy same kind value percentage log2) cells spill
+  build-cut : (ws : List ℕ) (len : ℕ) (pol : Polarity) (cells spill : ℕ)
+      → buildOf ws len pol (choiceAt kind value percentage log2) cells spill
+      ≡ buildOf ws len pol (choiceBy same kind value percentage log2) cells spill
   unfolding buildOf
   build-cut ws len pol cells spill = then-cut ws len pol (λ p. buildFrom ws p cells spill)
 
@@ -103,7 +111,10 @@ over-unlawful : (t : Summary) → Over t → unlawful t ≡ true
 unfolding unlawful Over
 over-unlawful t o = ⊎-elim (λ (h : 63 < L (t .plan)). large h)
     (⊎-elim (λ (h : 63 < M (t .plan)). simp (lt-ltb maxLog2Words (M (t .plan)) (omega arith), or-true))
-    (λ (h : 63 < S (t .plan)). ⊎-elim (λ (l : L (t .plan) < 64). simp (ne-eqb (S (t .plan)) (L (t .plan) - M (t .plan) - 2) (λ e. omega arith), or-true)) (λ (l : 64 ≤ L (t .plan)). large (omega arith)) (lt-or-le (L (t .plan)) 64))) o
+    (λ (h : 63 < S (t .plan)). ⊎-elim
+    (λ (l : L (t .plan) < 64). simp (ne-eqb (S (t .plan)) (L (t .plan) - M (t .plan) - 2) (λ e. omega arith), or-true))
+    (λ (l : 64 ≤ L (t .plan)). large (omega arith)) (lt-or-le (L (t .plan)) 64)))
+    o
   where
     large : 63 < L (t .plan) → unlawful t ≡ true
     large h = simp (lt-ltb 63 (L (t .plan)) h, or-true)
@@ -151,7 +162,8 @@ module _ {t u : Summary} where
         unlawful-refused ws u inv sp (ofRank (N (u .plan)) r) (hintAt u inv sp r) (over-unlawful u p),
       )
 
-  verdict-alike : Alike t u → (b : Summary → Bool) (o : Outcome Summary) → ((v : Summary) → o ≡ answer v → (L (v .plan) ≤ 63) × (M (v .plan) ≤ maxLog2Words) × (S (v .plan) ≤ 63))
+  verdict-alike : Alike t u → (b : Summary → Bool) (o : Outcome Summary)
+      → ((v : Summary) → o ≡ answer v → (L (v .plan) ≤ 63) × (M (v .plan) ≤ maxLog2Words) × (S (v .plan) ≤ 63))
       → andThen o (λ v. answer (sameSummary t v && b v)) ≡ andThen o (λ v. answer (sameSummary u v && b v))
   verdict-alike (equal e) b o small = ap (λ (z : Summary). andThen o (λ v. answer (sameSummary z v && b v))) e
   verdict-alike (both e x y) b (answer v) small =
@@ -162,8 +174,11 @@ module _ {t u : Summary} where
   answers-alike : Alike t u → SameAnswers t u
   unfolding checkOf selectOf hintOf dwellOf
   answers-alike w = record {
-    check = λ ws len pol c inv sp. verdict-alike w (λ v. sameIndex (posIn ws (v .plan)) (v .plan) inv sp) (buildOf ws len pol c (length inv) (length sp))
-        (λ v e. let a = admission ws len pol c (length inv) (length sp) v e .plans in (a .smallL, a .smallM, omega (arith, a .spaced, a .smallL)));
+    check =
+        λ ws len pol c inv sp. verdict-alike w (λ v. sameIndex (posIn ws (v .plan)) (v .plan) inv sp)
+        (buildOf ws len pol c (length inv) (length sp))
+        (λ v e. let a = admission ws len pol c (length inv) (length sp) v
+        e .plans in (a .smallL, a .smallM, omega (arith, a .spaced, a .smallL)));
     select = λ ws inv sp r. tests-alike w ws inv sp (λ z. ofRank (N (z .plan)) r) (λ z. positionOf ws z inv sp r);
     hint = λ ws inv sp r. tests-alike w ws inv sp (λ z. ofRank (N (z .plan)) r) (λ z. hintAt z inv sp r);
     store = store-alike w;

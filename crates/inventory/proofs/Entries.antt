@@ -56,7 +56,8 @@ kind-none U64 h m e = let z : _≡_ {A = ℕ} 0 1 = cc in absurd (omega arith)
 
 module _ (pos : ℕ → ℕ) (p : Parameters) (e : ℕ) where
   -- an entry by its kind
-  pub entry-by : entryOf pos p e ≡ entryBy p (e * 2 ^ L p) (startOf pos p e) (startOf pos p (e + 1)) (ranksOf p e) (kindOf pos p e) (log2Quantum (kindOf pos p e) (spanOf pos p e) (S p))
+  pub entry-by : entryOf pos p e
+      ≡ entryBy p (e * 2 ^ L p) (startOf pos p e) (startOf pos p (e + 1)) (ranksOf p e) (kindOf pos p e) (log2Quantum (kindOf pos p e) (spanOf pos p e) (S p))
   unfolding entryOf entryFrom kindOf spanOf
   entry-by = refl
 
@@ -84,7 +85,8 @@ module _ (pos : ℕ → ℕ) (p : Parameters) (e : ℕ) where
   some-lanes = subst (λ (y : Entry). 0 < y .shape .lanes) (sym entry-by) (lanes-pos (shaped (kindOf pos p e) (startOf pos p e)))
 
   pub spill-heads : (j : ℕ) → j < entryOf pos p e .spilled → entryOf pos p e .shape .heads ≡ 1
-  spill-heads j = subst (λ (y : Entry). j < y .spilled → y .shape .heads ≡ 1) (sym entry-by) (spill-head (kindOf pos p e) (startOf pos p e) _ (M p) j)
+  spill-heads j =
+      subst (λ (y : Entry). j < y .spilled → y .shape .heads ≡ 1) (sym entry-by) (spill-head (kindOf pos p e) (startOf pos p e) _ (M p) j)
 
   -- a U64 entry has a mark for each rank
   pub kind-whole : kindOf pos p e ≡ U64 → entryOf pos p e .«log2_quantum» ≡ 0
@@ -98,7 +100,8 @@ module _ (pos : ℕ → ℕ) (p : Parameters) (e : ℕ) where
       (mark-among s (ranksOf p e) q)
 
   -- the lanes suffice for the marks
-  pub marks-placed : S p ≡ L p - M p - 2 → (i : ℕ) → i < entryOf pos p e .marks → i < nearBy (entryOf pos p e .shape) (M p) + entryOf pos p e .spilled * entryOf pos p e .shape .lanes
+  pub marks-placed : S p ≡ L p - M p - 2 → (i : ℕ) → i < entryOf pos p e .marks
+      → i < nearBy (entryOf pos p e .shape) (M p) + entryOf pos p e .spilled * entryOf pos p e .shape .lanes
   marks-placed d i = subst (λ (y : Entry). i < y .marks → i < nearBy (y .shape) (M p) + y .spilled * y .shape .lanes) (sym entry-by)
       (marks-fit (kindOf pos p e) (startOf pos p e) (spanOf pos p e) (L p) (M p) (S p) (ranksOf p e) i d (ranks-most p e))
 
@@ -107,4 +110,6 @@ module _ (pos : ℕ → ℕ) (p : Parameters) (e : ℕ) where
   shape-by = ap (λ (y : Entry). y .shape) entry-by
 
   pub spilled-by : entryOf pos p e .spilled ≡ spilledBy (kindOf pos p e) (ceilDiv (ranksOf p e) (2 ^ entryOf pos p e .«log2_quantum»)) (M p)
-  spilled-by = subst (λ (y : Entry). y .spilled ≡ spilledBy (kindOf pos p e) (ceilDiv (ranksOf p e) (2 ^ y .«log2_quantum»)) (M p)) (sym entry-by) refl
+  spilled-by =
+      subst (λ (y : Entry). y .spilled ≡ spilledBy (kindOf pos p e) (ceilDiv (ranksOf p e) (2 ^ y .«log2_quantum»)) (M p)) (sym entry-by)
+      refl

@@ -38,7 +38,8 @@ module _ (pos : ℕ → ℕ) (p : Parameters) where
   spillStart-few (suc e) =
       omega (arith, spillStart-few e, spillStart-more e, ap (spillStart pos p) (add-one e), few-spilled pos p e, suc-mul e (2 ^ L p))
 
-  pub inventory-more : (e : ℕ) → inventoryTo pos p (e + 1) ≡ inventoryTo pos p e ++ ownCells pos (entryOf pos p e) (spillStart pos p e) (2 ^ M p)
+  pub inventory-more : (e : ℕ)
+      → inventoryTo pos p (e + 1) ≡ inventoryTo pos p e ++ ownCells pos (entryOf pos p e) (spillStart pos p e) (2 ^ M p)
   unfolding inventoryTo
   inventory-more e = ap (inventoryTo pos p) (add-one e)
 
@@ -50,7 +51,11 @@ module _ (pos : ℕ → ℕ) (p : Parameters) where
   unfolding inventoryTo
   inventory-length zero = sym (zero-mul (stride p))
   inventory-length (suc e) =
-      simp (length-append, inventory-length e, own-length pos (entryOf pos p e) (spillStart pos p e) (2 ^ M p) (few-heads pos p e) (pow-pos (M p)))
+      simp (
+        length-append,
+        inventory-length e,
+        own-length pos (entryOf pos p e) (spillStart pos p e) (2 ^ M p) (few-heads pos p e) (pow-pos (M p)),
+      )
       (sym (turn-more e (stride p)) ∙ ap (λ (z : ℕ). z * stride p) (add-one e))
 
   pub spill-to-length : (e : ℕ) → length (spillTo pos p e) ≡ spillStart pos p e

@@ -81,6 +81,7 @@ tab-at v (suc n) i h = ⊎-elim
 pub push : (p l : List ℕ) (k v : ℕ) → length p ≡ k → k < length l → set (p ++ drop k l) k v ≡ (p ++ (v ∷ [])) ++ drop (suc k) l
 push p l k v e h = rw (drop-cons l k 0 h, set-at p (getD l k 0) (drop (suc k) l) v k e, append-assoc)
 
-pub tab-more : (v : ℕ → ℕ) (l : List ℕ) (i c : ℕ) → i < length l → c ≡ v i → set (tabulate v i ++ drop i l) i c ≡ tabulate v (i + 1) ++ drop (i + 1) l
+pub tab-more : (v : ℕ → ℕ) (l : List ℕ) (i c : ℕ) → i < length l → c ≡ v i
+    → set (tabulate v i ++ drop i l) i c ≡ tabulate v (i + 1) ++ drop (i + 1) l
 unfolding tabulate
 tab-more v l i c h e = rw (e, push (tabulate v i) l i (v i) (tab-length v i) h, add-one)

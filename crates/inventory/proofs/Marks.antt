@@ -61,7 +61,8 @@ record Serves (s : Shape) (start next : ℕ) : Type 0 where
   pub low : s .base ≤ start
   pub fits : (m : ℕ) → start ≤ m → m < next → m - s .base < 2 ^ s .width
 
-serves : (kind : SpanType) (start next : ℕ) → Room kind (next - start) → start < next → next < 2 ^ 62 → Serves (shapeOf kind start) start next
+serves : (kind : SpanType) (start next : ℕ) → Room kind (next - start) → start < next → next < 2 ^ 62
+    → Serves (shapeOf kind start) start next
 serves U16 start next r l h = record { tagged = omega arith; low = omega arith; fits = λ m a b. omega arith }
 serves U32 start next r l h = record { tagged = omega arith; low = omega arith; fits = λ m a b. omega arith }
 serves U64 start next r l h = record { tagged = omega arith; low = omega arith; fits = λ m a b. omega arith }
@@ -183,10 +184,12 @@ module _ (pos : ℕ → ℕ) (p : Parameters) where
         let n : next ≡ bound pos p (first + 2 ^ L p) = start-next e in
         let inside : (k : ℕ) → k < ceilDiv ranks (2 ^ q) → k * 2 ^ q < ranks = λ k g. ceil-lt k ranks (2 ^ q) (pow-pos q) g in
         let two = pow-pos (L p) in
-        let above : (k : ℕ) → k < ceilDiv ranks (2 ^ q) → start ≤ pos (first + k * 2 ^ q) = λ k g. omega (arith, from-start first (k * 2 ^ q) (omega (arith, inside k g))) in
+        let above : (k : ℕ) → k < ceilDiv ranks (2 ^ q) → start ≤ pos (first + k * 2 ^ q) = λ k g. omega
+        (arith, from-start first (k * 2 ^ q) (omega (arith, inside k g))) in
         let below : (k : ℕ) → k < ceilDiv ranks (2 ^ q) → pos (first + k * 2 ^ q) < next =
         λ k g. omega (arith, bound-gt (first + k * 2 ^ q) (first + 2 ^ L p) (omega (arith, inside k g)) (omega (arith, inside k g))) in
-        let s = serves kind start next (room-of (next - start)) (omega (arith, bound-gt first (first + 2 ^ L p) (omega arith) l)) (omega (arith, bound-small (first + 2 ^ L p))) in
+        let s = serves kind start next (room-of (next - start)) (omega (arith, bound-gt first (first + 2 ^ L p) (omega arith) l))
+        (omega (arith, bound-small (first + 2 ^ L p))) in
         record {
           shaped = shaped kind start;
           close = omega (arith, quantum-le kind (next - start) (S p), h .closer, h .smallL);
@@ -211,7 +214,12 @@ module _ (pos : ℕ → ℕ) (x : Entry) where
   pub own-length : (before own : ℕ) → x .shape .heads ≤ 1 → 0 < own → length (ownCells pos x before own) ≡ own + 1
   unfolding ownCells
   own-length before own hh ho =
-      simp (length-append, stream-length (x .shape .from) (own - x .shape .heads), heads-length (x .shape .heads) (x .start + x .shape .tag) before hh) (omega arith)
+      simp (
+        length-append,
+        stream-length (x .shape .from) (own - x .shape .heads),
+        heads-length (x .shape .heads) (x .start + x .shape .tag) before hh,
+      )
+      (omega arith)
 
   pub spill-length : (own : ℕ) → length (spillCells pos x own) ≡ x .spilled
   unfolding spillCells

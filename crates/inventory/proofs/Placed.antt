@@ -45,10 +45,12 @@ module _ (pos : ℕ → ℕ) (x : Entry) (hh : x .shape .heads ≤ 1) (before ow
   pub own-second : x .shape .heads ≡ 1 → getD (ownCells pos x before own) 1 0 ≡ before
   own-second e = own-head 1 (omega arith)
 
-  pub own-cell : (j : ℕ) → j < own - x .shape .heads → getD (ownCells pos x before own) (1 + x .shape .heads + j) 0 ≡ packed pos x (x .shape .from + j * x .shape .lanes)
+  pub own-cell : (j : ℕ) → j < own - x .shape .heads
+      → getD (ownCells pos x before own) (1 + x .shape .heads + j) 0 ≡ packed pos x (x .shape .from + j * x .shape .lanes)
   unfolding ownCells
   own-cell j l =
-      ap (λ (n : ℕ). getD (heads ++ stream pos x (x .shape .from) (own - x .shape .heads)) (n + j) 0) (sym (heads-length (x .shape .heads) (x .start + x .shape .tag) before hh))
+      ap (λ (n : ℕ). getD (heads ++ stream pos x (x .shape .from) (own - x .shape .heads)) (n + j) 0)
+      (sym (heads-length (x .shape .heads) (x .start + x .shape .tag) before hh))
       ∙ getD-append-add heads (stream pos x (x .shape .from) (own - x .shape .heads)) j 0
       ∙ stream-at pos x (x .shape .from) (own - x .shape .heads) j l
 
@@ -72,7 +74,8 @@ module _ (pos : ℕ → ℕ) (p : Parameters) where
   unfolding inventoryTo
   inventory-at zero e j h l = absurd (omega arith)
   inventory-at (suc n) e j h l = lt-suc-cases
-      (λ (e : ℕ). (e < n → getD (inventoryTo pos p n) (e * stride p + j) 0 ≡ getD (ownOf e) j 0) → getD (inventoryTo pos p n ++ ownOf n) (e * stride p + j) 0 ≡ getD (ownOf e) j 0)
+      (λ (e : ℕ). (e < n → getD (inventoryTo pos p n) (e * stride p + j) 0 ≡ getD (ownOf e) j 0) → getD (inventoryTo pos p n ++ ownOf n)
+      (e * stride p + j) 0 ≡ getD (ownOf e) j 0)
       e n h
       (λ k ih. List·getD-append (inventoryTo pos p n) (ownOf n) 0 (e * stride p + j) (rw (inventory-length pos p n) (digits-lt k l)) ∙ ih k)
       (λ ih. rw (← inventory-length pos p n) (getD-append-add (inventoryTo pos p n) (ownOf n) j 0))

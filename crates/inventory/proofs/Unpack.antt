@@ -26,7 +26,8 @@ pub pack-lane : (w : ℕ) (v : ℕ → ℕ) → ((i : ℕ) → v i < 2 ^ w) → 
 unfolding laneOf pack
 pack-lane w v h zero t l = absurd (omega arith)
 pack-lane w v h (suc n) t l =
-    lt-suc-cases (λ (t : ℕ). (t < n → pack w v n / 2 ^ (w * t) % 2 ^ w ≡ v t) → (pack w v n + v n * 2 ^ (w * n)) / 2 ^ (w * t) % 2 ^ w ≡ v t) t n l
+    lt-suc-cases
+    (λ (t : ℕ). (t < n → pack w v n / 2 ^ (w * t) % 2 ^ w ≡ v t) → (pack w v n + v n * 2 ^ (w * n)) / 2 ^ (w * t) % 2 ^ w ≡ v t) t n l
     (λ k ih. lane-below (pack w v n) (v n) w t n k ∙ ih k)
     (λ ih.
     let c : pack w v n + v n * 2 ^ (w * n) ≡ v n * 2 ^ (w * n) + pack w v n = omega arith in

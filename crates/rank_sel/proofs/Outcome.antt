@@ -18,7 +18,8 @@ pub answer-is : {A : Type 0} {a b : A} → answer a ≡ answer b → a ≡ b
 answer-is e = cc
 
 -- an answer goes on, a refusal stays
-pub then-answer : {A B : Type 0} (o : Outcome A) (go : A → Outcome B) (b : B) → andThen o go ≡ answer b → (a : A) × (o ≡ answer a) × (go a ≡ answer b)
+pub then-answer : {A B : Type 0} (o : Outcome A) (go : A → Outcome B) (b : B) → andThen o go ≡ answer b
+    → (a : A) × (o ≡ answer a) × (go a ≡ answer b)
 then-answer (answer a) go b e = (a, refl, e)
 then-answer (refused n) go b e = never e
 
@@ -33,7 +34,8 @@ refused-holds true n a m e = refl
 refused-holds false n a m e = never (sym e)
 
 -- one step after another
-pub then-then : {A B C : Type 0} (o : Outcome A) (f : A → Outcome B) (g : B → Outcome C) → andThen (andThen o f) g ≡ andThen o (λ a. andThen (f a) g)
+pub then-then : {A B C : Type 0} (o : Outcome A) (f : A → Outcome B) (g : B → Outcome C)
+    → andThen (andThen o f) g ≡ andThen o (λ a. andThen (f a) g)
 then-then (answer a) f g = refl
 then-then (refused n) f g = refl
 
@@ -47,13 +49,15 @@ then-refused (answer a) f n = (λ e. never (sym e), λ e. never (sym e))
 then-refused (refused m) f n = (refused-as, refused-as)
 
 -- behind a test too
-pub refused-on : {A B : Type 0} (t : Bool) (k : ℕ) (o : Outcome A) (f : A → B) (n : ℕ) → (refuseIf t k (andThen o (λ a. answer (f a))) ≡ refused n) ↔ (refuseIf t k o ≡ refused n)
+pub refused-on : {A B : Type 0} (t : Bool) (k : ℕ) (o : Outcome A) (f : A → B) (n : ℕ)
+    → (refuseIf t k (andThen o (λ a. answer (f a))) ≡ refused n) ↔ (refuseIf t k o ≡ refused n)
 refused-on true k o f n = (refused-as, refused-as)
 refused-on false k o f n = then-refused o f n
 
 -- ---- tests in their order
 -- what comes after the tests comes after their answer
-pub refuse-then : {A B : Type 0} (b : Bool) (n : ℕ) (o : Outcome A) (go : A → Outcome B) → refuseIf b n (andThen o go) ≡ andThen (refuseIf b n o) go
+pub refuse-then : {A B : Type 0} (b : Bool) (n : ℕ) (o : Outcome A) (go : A → Outcome B)
+    → refuseIf b n (andThen o go) ≡ andThen (refuseIf b n o) go
 refuse-then true n o go = refl
 refuse-then false n o go = refl
 
@@ -99,7 +103,8 @@ module _ {cs : Conditions} {x : Tested} (w : Tells cs x) where
   passed-then e rest = sym (passing cs rest (passed-none e))
 
   -- it refused: so does the call, for that reason
-  pub stopped-then : {A : Type 0} {q : Refusal} (y : Refusal) → x ≡ Refused q → y ≡ reasonOf x → (rest : Outcome A) → refused (numberOf y) ≡ refuseBy cs rest
+  pub stopped-then : {A : Type 0} {q : Refusal} (y : Refusal) → x ≡ Refused q → y ≡ reasonOf x → (rest : Outcome A)
+      → refused (numberOf y) ≡ refuseBy cs rest
   stopped-then y e ey rest =
       ap (λ (z : Refusal). refused (numberOf z)) (ey ∙ ap reasonOf e)
       ∙ sym (tests-then cs rest ∙ ap (λ (o : Outcome (Unit {0})). andThen o (λ u. rest)) (sym (w .told) ∙ ap tested e))

@@ -12,14 +12,17 @@ use Rattle.rank_sel.proofs.Numbers.{lt-or-le}
 use Rattle.rank_sel.proofs.Rank.{rank-one, rank-same, rank-lt}
 
 pub sought-unique : (f : ℕ → Bool) (p q : ℕ) → f p ≡ true → f q ≡ true → rank f p ≡ rank f q → p ≡ q
-sought-unique f p q ep eq e = ⊎-elim (λ l. omega (arith, rank-lt f p q ep l)) (λ g. ⊎-elim (λ l. omega (arith, rank-lt f q p eq l)) (λ l. omega arith) (lt-or-le q p)) (lt-or-le p q)
+sought-unique f p q ep eq e =
+    ⊎-elim (λ l. omega (arith, rank-lt f p q ep l)) (λ g. ⊎-elim (λ l. omega (arith, rank-lt f q p eq l)) (λ l. omega arith) (lt-or-le q p))
+    (lt-or-le p q)
 
 pub seek-found : (f : ℕ → Bool) (n x k p : ℕ) → seek f n x k ≡ some p → Sought f n x k p
 unfolding seek
 seek-found f zero x k p e = let z : _≡_ {A = ℕ} 0 1 = cc in absurd (omega arith)
 seek-found f (suc n) x k p e = go (λ r. seek-found f n (suc x) r p) (f x) refl k e
   where
-    go : ((r : ℕ) → seek f n (suc x) r ≡ some p → Sought f n (suc x) r p) → (b : Bool) → f x ≡ b → (r : ℕ) → onHere b r x (λ r. seek f n (suc x) r) ≡ some p → Sought f (suc n) x r p
+    go : ((r : ℕ) → seek f n (suc x) r ≡ some p → Sought f n (suc x) r p) → (b : Bool) → f x ≡ b → (r : ℕ)
+        → onHere b r x (λ r. seek f n (suc x) r) ≡ some p → Sought f (suc n) x r p
     go ih true h zero q =
         let s : x ≡ p = cc in
         record { low = omega arith; high = omega arith; here = ap f (sym s) ∙ h; before = ap (rank f) (sym s) ∙ omega arith }
@@ -35,7 +38,8 @@ unfolding seek
 seek-none f zero x k e = rw add-zero (omega arith)
 seek-none f (suc n) x k e = go (λ r. seek-none f n (suc x) r) (f x) refl k e
   where
-    go : ((r : ℕ) → seek f n (suc x) r ≡ none → rank f (suc x + n) ≤ rank f (suc x) + r) → (b : Bool) → f x ≡ b → (r : ℕ) → onHere b r x (λ r. seek f n (suc x) r) ≡ none → rank f (x + suc n) ≤ rank f x + r
+    go : ((r : ℕ) → seek f n (suc x) r ≡ none → rank f (suc x + n) ≤ rank f (suc x) + r) → (b : Bool) → f x ≡ b → (r : ℕ)
+        → onHere b r x (λ r. seek f n (suc x) r) ≡ none → rank f (x + suc n) ≤ rank f x + r
     go ih true h zero q = let z : _≡_ {A = ℕ} 0 1 = cc in absurd (omega arith)
     go ih true h (suc r) q =
         let s = ih r q in
@@ -72,7 +76,8 @@ seek-some f n x k h = go (seek f n x k) refl
     go none e = absurd (omega (arith, seek-none f n x k e))
 
 -- the same place, sought over a longer part
-pub sought-wider : (f : ℕ → Bool) (n x k m y r p : ℕ) → Sought f n x k p → y ≤ x → x + n ≤ y + m → rank f x + k ≡ rank f y + r → Sought f m y r p
+pub sought-wider : (f : ℕ → Bool) (n x k m y r p : ℕ) → Sought f n x k p → y ≤ x → x + n ≤ y + m → rank f x + k ≡ rank f y + r
+    → Sought f m y r p
 sought-wider f n x k m y r p s a b e = record { low = omega arith; high = omega arith; here = s .here; before = omega arith }
 
 -- a seek may start at any place, before or behind: from there it is left with as many to pass
@@ -93,6 +98,9 @@ pub seek-exact : (f : ℕ → Bool) (n x k : ℕ) → Exact f n x k
 seek-exact f n x k = record {
   found = λ p. (seek-found f n x k p, seek-at f n x k p);
   unique = λ p q s t. sought-unique f p q (s .here) (t .here) (s .before ∙ sym (t .before));
-  exists = ((λ h. (seek-some f n x k h .0, seek-some f n x k h .2)), (λ s. omega (arith, s .1, rank-lt f (s .0) (x + n) (s .1 .here) (s .1 .high))));
+  exists = (
+    (λ h. (seek-some f n x k h .0, seek-some f n x k h .2)),
+    (λ s. omega (arith, s .1, rank-lt f (s .0) (x + n) (s .1 .here) (s .1 .high))),
+  );
   missing = (seek-none f n x k, seek-empty f n x k);
 }

@@ -25,7 +25,8 @@ use Rattle.read_inventory.proofs.Decoding.{decoded-marks}
 
 -- ---- a mark
 -- a number, and the mark that it gives
-within : (o : Outcome ℕ) (len base p : ℕ) → andThen o (λ n. refuseIf (leb len (base + n)) 10 (answer (base + n))) ≡ answer p → (n : ℕ) × (o ≡ answer n) × (p < len)
+within : (o : Outcome ℕ) (len base p : ℕ) → andThen o (λ n. refuseIf (leb len (base + n)) 10 (answer (base + n))) ≡ answer p
+    → (n : ℕ) × (o ≡ answer n) × (p < len)
 within o len base p e =
     let a = then-answer o (λ n. refuseIf (leb len (base + n)) 10 (answer (base + n))) p e in
     let f = not-refused (leb len (base + a .0)) 10 (answer (base + a .0)) p (a .2) in
@@ -57,7 +58,8 @@ pub record MarkRead (t : Summary) (inv sp : List ℕ) (r : ℕ) (o : Marked) : T
   pub told : marked o ≡ markOfRank t inv sp r
 
 module _ {t : Summary} {inv sp : List ℕ} {r : ℕ} {o : Marked} (w : MarkRead t inv sp r o) where
-  pub position-by : (ws : List ℕ) → andThen (marked o) (finish (selected (t .plan .polarity) ws (t .plan .len)) (t .plan .len)) ≡ positionOf ws t inv sp r
+  pub position-by : (ws : List ℕ)
+      → andThen (marked o) (finish (selected (t .plan .polarity) ws (t .plan .len)) (t .plan .len)) ≡ positionOf ws t inv sp r
   unfolding positionOf
   position-by ws = ap (λ (x : Outcome Mark). andThen x (finish (selected (t .plan .polarity) ws (t .plan .len)) (t .plan .len))) (w .told)
 
@@ -82,11 +84,13 @@ module _ (ws : List ℕ) (t : Summary) (inv sp : List ℕ) (a b : ℕ) where
   unfolding dwellAt
   dwell-stops o n e f = rw (← e, f)
 
-  pub dwell-stops-late : (p : ℕ) (o : Outcome ℕ) (n : ℕ) → answer p ≡ positionOf ws t inv sp a → o ≡ positionOf ws t inv sp b → o ≡ refused n → o ≡ dwellAt ws t inv sp a b
+  pub dwell-stops-late : (p : ℕ) (o : Outcome ℕ) (n : ℕ) → answer p ≡ positionOf ws t inv sp a → o ≡ positionOf ws t inv sp b
+      → o ≡ refused n → o ≡ dwellAt ws t inv sp a b
   unfolding dwellAt
   dwell-stops-late p o n ea eb f = rw (← ea, ← eb, f)
 
-  pub dwell-both : (p q : ℕ) → answer p ≡ positionOf ws t inv sp a → answer q ≡ positionOf ws t inv sp b → dwellBy p q ≡ dwellAt ws t inv sp a b
+  pub dwell-both : (p q : ℕ) → answer p ≡ positionOf ws t inv sp a → answer q ≡ positionOf ws t inv sp b
+      → dwellBy p q ≡ dwellAt ws t inv sp a b
   unfolding dwellAt
   dwell-both p q ea eb = rw (← ea, ← eb)
 
@@ -103,7 +107,8 @@ read-by t inv sp r d e =
     subst (λ (x : Decoded). ReadAs t inv sp r x) (answer-is (a .2)) (record { mark = a .1; is = refl })
 
 -- where a number's place is in the spill, it is past the entry's own lanes
-over-place : (s : Shape) (m c o i : ℕ) → isOver (placeBy s m c o i) ≡ true → (k : ℕ) × (j : ℕ) × (placeBy s m c o i ≡ over (o + k) j) × (nearBy s m ≤ i)
+over-place : (s : Shape) (m c o i : ℕ) → isOver (placeBy s m c o i) ≡ true
+    → (k : ℕ) × (j : ℕ) × (placeBy s m c o i ≡ over (o + k) j) × (nearBy s m ≤ i)
 over-place s m c o i e = go (ltb i (s .from)) (ltb i (nearBy s m)) refl e
   where
     go : (a b : Bool) → ltb i (nearBy s m) ≡ b
@@ -131,13 +136,15 @@ module _ {t : Summary} {inv sp : List ℕ} {r : ℕ} {d : Decoded} (w : ReadAs t
   over-low e =
       let o = over-at e in
       let m = numbered t inv sp (entryOfRank t r) (markNumber t inv r) (d .mark) (w .mark) in
-      let n : numberAt t inv sp (entryOfRank t r) (over (cellAt t inv (entryOfRank t r) 1 + o .0) (o .1)) ≡ answer (m .0) = rw (o .2) at (m .1) in
+      let n : numberAt t inv sp (entryOfRank t r) (over (cellAt t inv (entryOfRank t r) 1 + o .0) (o .1)) ≡ answer (m .0) = rw (o .2) at
+      (m .1) in
       let f = not-refused (leb (t .«spill_len») (cellAt t inv (entryOfRank t r) 1 + o .0)) 10 _ (m .0) n in
       omega (arith, leb-false (t .«spill_len») (cellAt t inv (entryOfRank t r) 1 + o .0) (f .0))
 
 -- ---- hint by what is decoded
 module _ (t : Summary) (inv sp : List ℕ) (r : ℕ) where
-  pub hint-decoded : (d : Decoded) → decodeOf t inv sp r ≡ answer d → hintAt t inv sp r ≡ answer (record { mark = d .mark; rank = r - d .residual })
+  pub hint-decoded : (d : Decoded) → decodeOf t inv sp r ≡ answer d
+      → hintAt t inv sp r ≡ answer (record { mark = d .mark; rank = r - d .residual })
   unfolding hintAt
   hint-decoded d e = rw (← decoded-marks t inv sp r (answer d) (sym e))
 
@@ -147,7 +154,8 @@ module _ (t : Summary) (inv sp : List ℕ) (r : ℕ) where
 
   -- and the mark by the hint
   pub hint-mark : (h : Hint) → hintAt t inv sp r ≡ answer h
-      → markOfRank t inv sp r ≡ answer (record { at = h .mark; residual = residual t inv r; exact = isU64 (kindAt t inv (entryOfRank t r)) })
+      → markOfRank t inv sp r
+      ≡ answer (record { at = h .mark; residual = residual t inv r; exact = isU64 (kindAt t inv (entryOfRank t r)) })
   unfolding hintAt markOfRank
   hint-mark h e =
       let m = then-answer (markOfRank t inv sp r) _ h e in

@@ -108,7 +108,8 @@ module _ {t : Summary} {inv sp : List ℕ} {r : ℕ} {h : Head} {q sub : ℕ} (w
   spaced-is : (spanTooSmall (kindAt t inv (entryOfRank t r)) (spanAt t inv (entryOfRank t r)) ≡ false) × (q ≡ quantumAt t inv (entryOfRank t r))
   unfolding spacingAt
   spaced-is =
-      let f = not-refused (spanTooSmall (kindAt t inv (entryOfRank t r)) (spanAt t inv (entryOfRank t r))) 10 (answer (quantumAt t inv (entryOfRank t r))) q
+      let f = not-refused (spanTooSmall (kindAt t inv (entryOfRank t r)) (spanAt t inv (entryOfRank t r))) 10
+      (answer (quantumAt t inv (entryOfRank t r))) q
       (sym (rw (entry-is (w .head)) at (w .spacing))) in
       (f .0, sym (answer-is (f .1)))
 
@@ -124,13 +125,15 @@ module _ {t : Summary} {inv sp : List ℕ} {r : ℕ} {h : Head} {q sub : ℕ} (w
   pub reading-none : Missing ≡ numberOfMark t inv sp (h .entry) (sub / 2 ^ q) → refused 10 ≡ decodeOf t inv sp r
   unfolding decodeOf markAt
   reading-none f =
-      let g = number-none t inv sp (entryOfRank t r) (placeAt t inv (entryOfRank t r) (markNumber t inv r)) (rw (entry-is (w .head), number-is) at f) in
+      let g = number-none t inv sp (entryOfRank t r) (placeAt t inv (entryOfRank t r) (markNumber t inv r))
+      (rw (entry-is (w .head), number-is) at f) in
       simp (spaced-is .0, g)
 
 module _ {t : Summary} {inv sp : List ℕ} {r : ℕ} {h : Head} {q sub n : ℕ} {b : Bool} {s : Shape} (w : Numbered t inv sp r h q sub n b s) where
   found : (numberAt t inv sp (entryOfRank t r) (placeAt t inv (entryOfRank t r) (markNumber t inv r)) ≡ answer n) × (b ≡ isOver (placeAt t inv (entryOfRank t r) (markNumber t inv r)))
   found =
-      number-some (placeAt t inv (entryOfRank t r) (markNumber t inv r)) (numberAt t inv sp (entryOfRank t r) (placeAt t inv (entryOfRank t r) (markNumber t inv r))) n b
+      number-some (placeAt t inv (entryOfRank t r) (markNumber t inv r))
+      (numberAt t inv sp (entryOfRank t r) (placeAt t inv (entryOfRank t r) (markNumber t inv r))) n b
       (rw (entry-is (w .divided .head), number-is (w .divided)) at (w .number))
 
   shape-is : s ≡ shapeAt t inv (entryOfRank t r)
@@ -145,7 +148,17 @@ module _ {t : Summary} {inv sp : List ℕ} {r : ℕ} {h : Head} {q sub n : ℕ} 
       → answer (record { head = h; «log2_quantum» = q; mark = s .base + n; residual = res; spilled = b }) ≡ decodeOf t inv sp r
   unfolding decodeOf markAt residual
   reading-is l res er =
-      simp (spaced-is (w .divided) .0, found .0, ← shape-is, lt-leb (t .plan .len) (s .base + n) l, er, w .divided .subrank, w .divided .head .read, spaced-is (w .divided) .1, found .1)
+      simp (
+        spaced-is (w .divided) .0,
+        found .0,
+        ← shape-is,
+        lt-leb (t .plan .len) (s .base + n) l,
+        er,
+        w .divided .subrank,
+        w .divided .head .read,
+        spaced-is (w .divided) .1,
+        found .1,
+      )
 
 -- ---- a U16 entry
 -- c is the number of the first cell of r's entry, which is U16, and sub the subrank of r
@@ -165,14 +178,18 @@ module _ {t : Summary} {inv sp : List ℕ} {r c sub : ℕ} (w : Quartered t inv 
   -- its marks all stand in its own cells
   quarter-near : sub / 2 ^ S (t .plan) < 2 ^ M (t .plan) * 4
   quarter-near =
-      let l : sub < 2 ^ (M (t .plan) + 2 + S (t .plan)) = lt-of-lt-of-le (omega (arith, w .subrank, mod-lt r (pow-pos (L (t .plan))))) (pow-mono {i = L (t .plan)} {j = M (t .plan) + 2 + S (t .plan)} (omega (arith, w .readable .lawful .spaced))) in
+      let l : sub < 2 ^ (M (t .plan) + 2 + S (t .plan)) = lt-of-lt-of-le (omega (arith, w .subrank, mod-lt r (pow-pos (L (t .plan)))))
+      (pow-mono {i = L (t .plan)} {j = M (t .plan) + 2 + S (t .plan)} (omega (arith, w .readable .lawful .spaced))) in
       rw pow-add at (shr-lt (M (t .plan) + 2) (S (t .plan)) l)
 
   quarter-spot : Spotted t inv (entryOfRank t r) (sub / 2 ^ S (t .plan)) (headU16 inv (entryOfRank t r) c) (shapeOf U16 (getD inv c 0)) (Own (sub / 2 ^ S (t .plan) / 4) (sub / 2 ^ S (t .plan) % 4))
   quarter-spot = record {
     head = quarter-head .read;
     shape = refl;
-    place = simp sub-zero at (spot-own (shapeOf U16 (getD inv c 0)) (M (t .plan)) (sub / 2 ^ S (t .plan)) (shaped U16 (getD inv c 0)) 2 (2 ^ M (t .plan)) (sym (ilog2-unique 4 2 (omega arith) (omega arith))) refl (omega arith) (omega (arith, quarter-near)) _ refl);
+    place =
+        simp sub-zero at
+        (spot-own (shapeOf U16 (getD inv c 0)) (M (t .plan)) (sub / 2 ^ S (t .plan)) (shaped U16 (getD inv c 0)) 2 (2 ^ M (t .plan))
+        (sym (ilog2-unique 4 2 (omega arith) (omega arith))) refl (omega arith) (omega (arith, quarter-near)) _ refl);
     lent = entry-in t inv sp r (w .readable);
   }
 

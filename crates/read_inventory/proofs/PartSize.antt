@@ -40,7 +40,8 @@ module _ {ws : List ℕ} {t : Summary} {inv sp : List ℕ} {r : ℕ} {d : Decode
       let p = t .plan in
       let e = entryOfRank t r in
       let i = mark-among (r % 2 ^ L p) (ranksOf p e) (quantumAt t inv e) (rank-sub p r (a .below)) in
-      let l = marks-fit (kindAt t inv e) (startAt t inv e) (spanAt t inv e) (L p) (M p) (S p) (ranksOf p e) (markNumber t inv r) (a .lawful .spaced) (ranks-most p e) i in
+      let l = marks-fit (kindAt t inv e) (startAt t inv e) (spanAt t inv e) (L p) (M p) (S p) (ranksOf p e) (markNumber t inv r)
+      (a .lawful .spaced) (ranks-most p e) i in
       more-some _ _ _ _ (over-past (s .read) f) l
 
   stored-some : SomeLent inv sp (subinventoryOf ws t inv sp r)

@@ -24,7 +24,8 @@ use Rattle.read_inventory.proofs.Answers.{ReadAs, over-low}
 use Rattle.read_inventory.proofs.Decoding.{entry-in, quantum-at-low}
 
 -- the entry's own cells, or its spilled ones
-part-near : (t : Summary) (inv : List ℕ) (e : ℕ) (p : Place) → isOver p ≡ false → partBy t inv e p ≡ ofInventory (e * stride (t .plan) + 1) (2 ^ M (t .plan))
+part-near : (t : Summary) (inv : List ℕ) (e : ℕ) (p : Place) → isOver p ≡ false
+    → partBy t inv e p ≡ ofInventory (e * stride (t .plan) + 1) (2 ^ M (t .plan))
 part-near t inv e start f = refl
 part-near t inv e (own c j) f = refl
 part-near t inv e (over c j) f = let z : _≡_ {A = ℕ} 0 1 = cc in absurd (omega arith)
@@ -36,7 +37,8 @@ part-far t inv e (own c j) f = let z : _≡_ {A = ℕ} 0 1 = cc in absurd (omega
 part-far t inv e (over c j) f = refl
 
 -- store refuses as hint does
-pub store-refused : (ws : List ℕ) (t : Summary) (inv sp : List ℕ) (r n : ℕ) → refused n ≡ hintOf ws t inv sp r → refused n ≡ storeOf ws t inv sp r
+pub store-refused : (ws : List ℕ) (t : Summary) (inv sp : List ℕ) (r n : ℕ) → refused n ≡ hintOf ws t inv sp r
+    → refused n ≡ storeOf ws t inv sp r
 unfolding storeOf
 store-refused ws t inv sp r n e = rw (← e)
 
@@ -70,7 +72,8 @@ module _ {ws : List ℕ} {t : Summary} {inv sp : List ℕ} {r : ℕ} {d : Decode
   -- ---- its own cells
   pub store-own : d .spilled ≡ false → answer (ofInventory (d .head .cell + 1) (2 ^ M (t .plan))) ≡ storeOf ws t inv sp r
   store-own f =
-      let e : ofInventory (d .head .cell + 1) (2 ^ M (t .plan)) ≡ ofInventory (entryOfRank t r * stride (t .plan) + 1) (2 ^ M (t .plan)) = rw cell-is in
+      let e : ofInventory (d .head .cell + 1) (2 ^ M (t .plan)) ≡ ofInventory (entryOfRank t r * stride (t .plan) + 1) (2 ^ M (t .plan)) =
+      rw cell-is in
       ap answer (e ∙ sym (part-near t inv (entryOfRank t r) place (sym spilled-is ∙ f))) ∙ sym store-is
 
   pub small-m : M (t .plan) < 64
@@ -98,14 +101,16 @@ module _ {ws : List ℕ} {t : Summary} {inv sp : List ℕ} {r : ℕ} {d : Decode
       → answer (ofSpill (getD inv (d .head .cell + 1) 0) k) ≡ storeOf ws t inv sp r
   store-over f n k en ek =
       let second = cellAt t inv (entryOfRank t r) 1 in
-      let e : ofSpill (getD inv (d .head .cell + 1) 0) k ≡ ofSpill second (min (spilledAt t inv (entryOfRank t r)) (t .«spill_len» - second)) =
+      let e : ofSpill (getD inv (d .head .cell + 1) 0) k ≡ ofSpill second
+      (min (spilledAt t inv (entryOfRank t r)) (t .«spill_len» - second)) =
       rw (ek, en, rule-is, second-cell) in
       ap answer (e ∙ sym (part-far t inv (entryOfRank t r) place (sym spilled-is ∙ f))) ∙ sym store-is
 
   pub over-start : d .spilled ≡ true → getD inv (d .head .cell + 1) 0 < t .«spill_len»
   over-start f = rw second-cell (over-low (s .read) f)
 
-  pub over-end : d .spilled ≡ true → (n k : ℕ) → k ≡ min n (t .«spill_len» - getD inv (d .head .cell + 1) 0) → getD inv (d .head .cell + 1) 0 + k ≤ length sp
+  pub over-end : d .spilled ≡ true → (n k : ℕ) → k ≡ min n (t .«spill_len» - getD inv (d .head .cell + 1) 0)
+      → getD inv (d .head .cell + 1) 0 + k ≤ length sp
   over-end f n k ek = omega (arith, over-start f, s .readable .held .over)
 
   pub countable : Countable (t .plan) d

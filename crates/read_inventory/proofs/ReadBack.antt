@@ -65,7 +65,8 @@ module _ (pos : ℕ → ℕ) (p : Parameters) (g : Rising pos p) (spaced : S p �
     abbrev t : Summary
     t = summaryOf pos p
 
-    first-cell : (e : ℕ) → e < entriesOf p → getD inv (e * stride p + 0) 0 ≡ startOf pos p e + shapeOf (kindOf pos p e) (startOf pos p e) .tag
+    first-cell : (e : ℕ) → e < entriesOf p
+        → getD inv (e * stride p + 0) 0 ≡ startOf pos p e + shapeOf (kindOf pos p e) (startOf pos p e) .tag
     first-cell e h = w .own e 0 h (omega arith)
         ∙ own-first pos (entryOf pos p e) (entry-streamable pos p g e (entry-in p e h) .shaped .heads) (spillStart pos p e) (2 ^ M p)
         ∙ ap (λ (x : Entry). x .start + x .shape .tag) (entry-by pos p e)
@@ -75,7 +76,8 @@ module _ (pos : ℕ → ℕ) (p : Parameters) (g : Rising pos p) (spaced : S p �
         (λ (l : e < entriesOf p). rw (first-cell e l) (low-back (kindOf pos p e) (startOf pos p e) (start-small e)))
         (λ (l : entriesOf p ≤ e).
         let d : e ≡ entriesOf p = omega arith in
-        let c : getD inv (entriesOf p * stride p + 0) 0 ≡ startOf pos p (entriesOf p) = ap (λ (n : ℕ). getD inv n 0) (omega arith) ∙ w .closing in
+        let c : getD inv (entriesOf p * stride p + 0) 0 ≡ startOf pos p (entriesOf p) = ap (λ (n : ℕ). getD inv n 0) (omega arith)
+        ∙ w .closing in
         rw (d, c) (mod-eq-of-lt (start-small (entriesOf p))))
         (lt-or-le e (entriesOf p))
 
@@ -111,7 +113,8 @@ module _ (pos : ℕ → ℕ) (p : Parameters) (g : Rising pos p) (spaced : S p �
 
       pub second-read : x .shape .heads ≡ 1 → cellAt t inv e 1 ≡ spillStart pos p e
       unfolding cellAt summaryOf
-      second-read d = w .own e 1 h (omega (arith, pow-pos (M p))) ∙ own-second pos x (streams .shaped .heads) (spillStart pos p e) (2 ^ M p) d
+      second-read d =
+          w .own e 1 h (omega (arith, pow-pos (M p))) ∙ own-second pos x (streams .shaped .heads) (spillStart pos p e) (2 ^ M p) d
 
       -- ---- numbers
       -- the lanes of the entry's own cells
@@ -150,14 +153,18 @@ module _ (pos : ℕ → ℕ) (p : Parameters) (g : Rising pos p) (spaced : S p �
       spill-in j l = omega (arith, spillStart-more pos p e, spillStart-mono pos p (e + 1) (entriesOf p) (omega arith))
 
       -- number i as read is lane i
-      pub number-read : (i : ℕ) → x .shape .from ≤ i → i < near + x .spilled * lanes → numberAt t inv sp e (placeAt t inv e i) ≡ answer (lane pos x i)
+      pub number-read : (i : ℕ) → x .shape .from ≤ i → i < near + x .spilled * lanes
+          → numberAt t inv sp e (placeAt t inv e i) ≡ answer (lane pos x i)
       unfolding placeAt summaryOf
       number-read i l b = rw (shape-read, le-ltb i (x .shape .from) l) (⊎-elim
           (λ (k : i < near). rw (lt-ltb i near k) (unfold numberAt in (rw shape-read (ap answer (own-number i l k)))))
           (λ (k : near ≤ i).
           let q : (i - near) / lanes < x .spilled = div-lt-iff-lt-mul (some-lanes pos p e) .1 (omega arith) in
           rw (le-ltb i near k, second-read (spill-heads pos p e ((i - near) / lanes) q))
-          (unfold numberAt in (rw (lt-leb (spillStart pos p (entriesOf p)) (spillStart pos p e + (i - near) / lanes) (spill-in ((i - near) / lanes) q), shape-read)
+          (unfold numberAt in (rw (
+            lt-leb (spillStart pos p (entriesOf p)) (spillStart pos p e + (i - near) / lanes) (spill-in ((i - near) / lanes) q),
+            shape-read,
+          )
           (ap answer (over-number i k q)))))
           (lt-or-le i near))
 
@@ -167,7 +174,9 @@ module _ (pos : ℕ → ℕ) (p : Parameters) (g : Rising pos p) (spaced : S p �
 
       -- before the first lane stands mark 0, which is the start
       first-number : (i : ℕ) → i < x .shape .from → (i ≡ 0) × (x .shape .base ≡ 0)
-      first-number i = subst (λ (y : Entry). i < y .shape .from → (i ≡ 0) × (y .shape .base ≡ 0)) (sym (entry-by pos p e)) (first-mark (kindOf pos p e) (startOf pos p e) i)
+      first-number i =
+          subst (λ (y : Entry). i < y .shape .from → (i ≡ 0) × (y .shape .base ≡ 0)) (sym (entry-by pos p e))
+          (first-mark (kindOf pos p e) (startOf pos p e) i)
 
       mark-below : (i : ℕ) → i < x .marks → mark pos x i < p .len
       unfolding mark
@@ -177,12 +186,17 @@ module _ (pos : ℕ → ℕ) (p : Parameters) (g : Rising pos p) (spaced : S p �
       unfolding placeAt numberAt
       start-number i k = rw (shape-read, lt-ltb i (x .shape .from) k, start-read)
 
-      mark-number : (i : ℕ) → i < x .marks → (n : ℕ) × (numberAt t inv sp e (placeAt t inv e i) ≡ answer n) × (x .shape .base + n ≡ mark pos x i)
+      mark-number : (i : ℕ) → i < x .marks
+          → (n : ℕ) × (numberAt t inv sp e (placeAt t inv e i) ≡ answer n) × (x .shape .base + n ≡ mark pos x i)
       mark-number i l = ⊎-elim
           (λ (k : i < x .shape .from).
           let f = first-number i k in
           (startOf pos p e, start-number i k, omega (arith, f .1, mark-zero, ap (mark pos x) (f .0))))
-          (λ (k : x .shape .from ≤ i). (lane pos x i, number-read i k (marks-placed pos p e spaced i l), omega (arith, lane-in pos x i l, streams .low i l)))
+          (λ (k : x .shape .from ≤ i). (
+            lane pos x i,
+            number-read i k (marks-placed pos p e spaced i l),
+            omega (arith, lane-in pos x i l, streams .low i l),
+          ))
           (lt-or-le i (x .shape .from))
 
       span-lawful : spanTooSmall (kindOf pos p e) (spanOf pos p e) ≡ false
@@ -210,7 +224,8 @@ module _ (pos : ℕ → ℕ) (p : Parameters) (g : Rising pos p) (spaced : S p �
       q = x .«log2_quantum»
 
       rank-read : (s : ℕ) → s < ranksOf p e
-          → markOfRank t inv sp (e * 2 ^ L p + s) ≡ answer (record { at = mark pos x (s / 2 ^ q); residual = s % 2 ^ q; exact = isU64 (kindOf pos p e) })
+          → markOfRank t inv sp (e * 2 ^ L p + s)
+          ≡ answer (record { at = mark pos x (s / 2 ^ q); residual = s % 2 ^ q; exact = isU64 (kindOf pos p e) })
       unfolding markOfRank markNumber residual summaryOf
       rank-read s l =
           let small : s < 2 ^ L p = omega (arith, ranks-most p e) in

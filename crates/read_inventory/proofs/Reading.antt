@@ -71,7 +71,8 @@ module _ (s : Shape) (m i : ℕ) (h : Shaped s) where
     near-is : s .from + (p - s .heads) * s .lanes ≡ nearBy s m
     near-is = ap (λ (z : ℕ). s .from + (z - s .heads) * s .lanes) ep
 
-    pub spot-own : i < s .from + (p - s .heads) * s .lanes → (j : ℕ) → j ≡ (i - s .from) % 2 ^ k → SpotFor s m i (Own ((i - s .from) / 2 ^ k) j)
+    pub spot-own : i < s .from + (p - s .heads) * s .lanes → (j : ℕ) → j ≡ (i - s .from) % 2 ^ k
+        → SpotFor s m i (Own ((i - s .from) / 2 ^ k) j)
     spot-own b j ej =
         let l : i < nearBy s m = rw near-is at b in
         record {
@@ -82,7 +83,8 @@ module _ (s : Shape) (m i : ℕ) (h : Shaped s) where
           );
         }
 
-    pub spot-over : s .from + (p - s .heads) * s .lanes ≤ i → (j : ℕ) → j ≡ (i - (s .from + (p - s .heads) * s .lanes)) % 2 ^ k → SpotFor s m i (Over ((i - (s .from + (p - s .heads) * s .lanes)) / 2 ^ k) j)
+    pub spot-over : s .from + (p - s .heads) * s .lanes ≤ i → (j : ℕ) → j ≡ (i - (s .from + (p - s .heads) * s .lanes)) % 2 ^ k
+        → SpotFor s m i (Over ((i - (s .from + (p - s .heads) * s .lanes)) / 2 ^ k) j)
     spot-over b j ej =
         let l : nearBy s m ≤ i = rw near-is at b in
         record {
@@ -106,7 +108,8 @@ module _ (t : Summary) (inv : List ℕ) (e : ℕ) where
   pub second-in : (h : Head) → h ≡ headOf t inv e → EntryLent t inv e → h .cell + 1 < length inv
   second-in h eh i = omega (arith, ap (λ (x : Head). x .cell) eh, i .within, pow-pos (M (t .plan)))
 
-  pub span-read : (h : Head) (p span : ℕ) → h ≡ headOf t inv e → p ≡ stride (t .plan) → span ≡ getD inv (h .cell + p) 0 % 2 ^ 62 - h .start → span ≡ spanAt t inv e
+  pub span-read : (h : Head) (p span : ℕ) → h ≡ headOf t inv e → p ≡ stride (t .plan) → span ≡ getD inv (h .cell + p) 0 % 2 ^ 62 - h .start
+      → span ≡ spanAt t inv e
   unfolding cellAt spanAt
   span-read h p span eh ep es = es ∙ simp (ep, eh)
 
@@ -122,7 +125,8 @@ module _ (t : Summary) (inv : List ℕ) (e : ℕ) where
   unfolding spacingAt quantumAt
   spacing-small k l = simp (k, lt-ltb (spanAt t inv e) 65537 l)
 
-  pub spacing-32 : kindAt t inv e ≡ U32 → 65537 ≤ spanAt t inv e → answer (log2OnesPerSub32 (spanAt t inv e) (S (t .plan))) ≡ spacingAt t inv e
+  pub spacing-32 : kindAt t inv e ≡ U32 → 65537 ≤ spanAt t inv e
+      → answer (log2OnesPerSub32 (spanAt t inv e) (S (t .plan))) ≡ spacingAt t inv e
   unfolding spacingAt quantumAt
   spacing-32 k l = simp (k, le-ltb (spanAt t inv e) 65537 l)
 
@@ -141,7 +145,10 @@ module _ {t : Summary} {inv : List ℕ} {e i : ℕ} {h : Head} {s : Shape} {p : 
 
   place-as : (q : Spot) → p ≡ q → placeAt t inv e i ≡ spotPlace q (h .cell + 1 + s .heads) (getD inv (h .cell + 1) 0)
   unfolding placeAt cellAt
-  place-as q eq = sym (ap (λ (x : Spot). spotPlace x (h .cell + 1 + s .heads) (getD inv (h .cell + 1) 0)) (sym eq) ∙ w .place .place (h .cell + 1 + s .heads) (getD inv (h .cell + 1) 0) ∙ simp (w .head, shape-is))
+  place-as q eq =
+      sym
+      (ap (λ (x : Spot). spotPlace x (h .cell + 1 + s .heads) (getD inv (h .cell + 1) 0)) (sym eq)
+      ∙ w .place .place (h .cell + 1 + s .heads) (getD inv (h .cell + 1) 0) ∙ simp (w .head, shape-is))
 
   cell-is : h .cell ≡ e * stride (t .plan)
   cell-is = ap (λ (x : Head). x .cell) (w .head)
@@ -161,7 +168,8 @@ module _ {t : Summary} {inv : List ℕ} {e i : ℕ} {h : Head} {s : Shape} {p : 
   pub over-lane : (n j : ℕ) → p ≡ Over n j → (0 < s .width) × (s .width ≤ 64) × (s .width * j < 64)
   over-lane n j eq = lane-in j (spot-in (Over n j) eq)
 
-  pub number-start : (sp : List ℕ) → p ≡ Start → Is (h .start) false ≡ numbered (placeAt t inv e i) (numberAt t inv sp e (placeAt t inv e i))
+  pub number-start : (sp : List ℕ) → p ≡ Start
+      → Is (h .start) false ≡ numbered (placeAt t inv e i) (numberAt t inv sp e (placeAt t inv e i))
   unfolding numberAt
   number-start sp eq = simp (place-as Start eq, w .head)
 
@@ -176,6 +184,8 @@ module _ {t : Summary} {inv : List ℕ} {e i : ℕ} {h : Head} {s : Shape} {p : 
   number-missing sp n j eq l = simp (place-as (Over n j) eq, le-leb (t .«spill_len») (getD inv (h .cell + 1) 0 + n) (omega arith))
 
   pub number-over : (sp : List ℕ) (n j v : ℕ) → p ≡ Over n j → n < t .«spill_len» - getD inv (h .cell + 1) 0
-      → v ≡ laneOf (s .width) (getD sp (getD inv (h .cell + 1) 0 + n) 0) j → Is v true ≡ numbered (placeAt t inv e i) (numberAt t inv sp e (placeAt t inv e i))
+      → v ≡ laneOf (s .width) (getD sp (getD inv (h .cell + 1) 0 + n) 0) j
+      → Is v true ≡ numbered (placeAt t inv e i) (numberAt t inv sp e (placeAt t inv e i))
   unfolding numberAt
-  number-over sp n j v eq l ev = simp (place-as (Over n j) eq, lt-leb (t .«spill_len») (getD inv (h .cell + 1) 0 + n) (omega arith), ev, shape-is)
+  number-over sp n j v eq l ev =
+      simp (place-as (Over n j) eq, lt-leb (t .«spill_len») (getD inv (h .cell + 1) 0 + n) (omega arith), ev, shape-is)

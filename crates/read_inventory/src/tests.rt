@@ -1,7 +1,8 @@
 // What a call on an index is held to before any cell is read: the tests of record, summary, cells and ranks, in their order.
-ghost use mathlib.Core.List.{_++_};
+ghost use mathlib.Core.List.{[], _++_, _∷_};
 ghost use mathlib.Core.Path.{_≡_};
-ghost use Rattle.rank_sel.specs.Outcome.{testBy, tested};
+ghost use lib.Dec.{ltb};
+ghost use Rattle.rank_sel.specs.Outcome.{numberOf, testBy, tested};
 ghost use Rattle.spacing.specs.Spacing.{N};
 ghost use Rattle.read_inventory.specs.Tests.{ofCells, ofIndex, ofRank, ofRanks};
 use bit_record::test_record;
@@ -10,15 +11,12 @@ use inventory::test_summary;
 use rank_sel::Refusal;
 use rank_sel::Tested;
 
-// Refusals 6 and 7.
-fn test_cells(summary: Summary, inventory: &[u64], spill: &[u64]) -> Tested
-    ensures { λ r. ⌜ tested r ≡ testBy (ofCells summary (now (inventory .entry)) (now (spill .entry))) ⌝ }
+// Refusals 6 and 7: fewer cells are lent than the summary counts.
+fn test_lent(lent: u64, count: u64, refusal: Refusal) -> Tested
+    ensures { λ r. ⌜ tested r ≡ testBy ((ltb lent count, numberOf refusal) ∷ []) ⌝ }
 {
-    if (inventory.len() as u64) < summary.inventory_len {
-        return Tested::Refused(Refusal::InventoryTooShort);
-    }
-    if (spill.len() as u64) < summary.spill_len {
-        return Tested::Refused(Refusal::SpillTooShort);
+    if lent < count {
+        return Tested::Refused(refusal);
     }
     Tested::Passed
 }
@@ -35,7 +33,19 @@ fn test_index(words: &[u64], summary: Summary, inventory: &[u64], spill: &[u64])
     let Tested::Passed = lawful else {
         return lawful;
     };
-    test_cells(summary, inventory, spill)
+    let own = test_lent(
+        inventory.len() as u64,
+        summary.inventory_len,
+        Refusal::InventoryTooShort,
+    );
+    let Tested::Passed = own else {
+        return own;
+    };
+    test_lent(
+        spill.len() as u64,
+        summary.spill_len,
+        Refusal::SpillTooShort,
+    )
 }
 
 // Refusal 8.

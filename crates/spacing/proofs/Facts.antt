@@ -58,13 +58,16 @@ module _ (ws : List ℕ) (len : ℕ) (pol : Polarity) (a : Admitted ws len) wher
       with-facts l (cappedLog2Words num l maximum) hl
       (le-trans (min-le-left maximum (min (l - 2) (clog2 (max 1 num) - 2))) hm)
 
-  rule-facts : (r : Rule) → onesPerInventoryTooLarge num len r ≡ false → wordsPerSubinventoryTooLarge r ≡ false → PlanFacts ws len pol (planFor pol len num r)
+  rule-facts : (r : Rule) → onesPerInventoryTooLarge num len r ≡ false → wordsPerSubinventoryTooLarge r ≡ false
+      → PlanFacts ws len pol (planFor pol len num r)
   unfolding planFor
-  rule-facts (span target maximum) x y = capped-facts (spanLog2 num target len) maximum (ltb-false 63 (spanLog2 num target len) x) (ltb-false maxLog2Words maximum y)
+  rule-facts (span target maximum) x y =
+      capped-facts (spanLog2 num target len) maximum (ltb-false 63 (spanLog2 num target len) x) (ltb-false maxLog2Words maximum y)
   rule-facts (power l maximum) x y = capped-facts l maximum (ltb-false 63 l x) (ltb-false maxLog2Words maximum y)
   rule-facts (overhead percentage maximum) x y =
       let h = ltb-false maxLog2Words maximum y in
-      capped-facts (spanLog2 num (overheadSpan percentage maximum) len) maximum (span-most num (overheadSpan percentage maximum) len (num-le pol ws len) (overhead-small percentage maximum h)) h
+      capped-facts (spanLog2 num (overheadSpan percentage maximum) len) maximum
+      (span-most num (overheadSpan percentage maximum) len (num-le pol ws len) (overhead-small percentage maximum h)) h
   rule-facts (fixed l m) x y = with-facts l m (ltb-false 63 l x) (ltb-false maxLog2Words m y)
 
   chosen-facts : (r : Rule) (p : Parameters) → chosenPlan pol len num r ≡ answer p → PlanFacts ws len pol p
@@ -73,7 +76,8 @@ module _ (ws : List ℕ) (len : ℕ) (pol : Polarity) (a : Admitted ws len) wher
       let t = passed-all (ofRule num len r) (answer (planFor pol len num r)) p e in
       subst (λ (q : Parameters). PlanFacts ws len pol q) (answer-is (t .1)) (rule-facts r (t .0 .0) (t .0 .1 .0))
 
-pub plan-facts : (ws : List ℕ) (len : ℕ) (pol : Polarity) (choice : Choice) (p : Parameters) → planOf ws len pol choice ≡ answer p → PlanFacts ws len pol p
+pub plan-facts : (ws : List ℕ) (len : ℕ) (pol : Polarity) (choice : Choice) (p : Parameters) → planOf ws len pol choice ≡ answer p
+    → PlanFacts ws len pol p
 unfolding planOf
 plan-facts ws len pol choice p e =
     let n = then-answer (countOf ws len pol) (λ num. chosenPlan pol len num (rule choice)) p e in

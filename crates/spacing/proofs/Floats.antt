@@ -70,7 +70,8 @@ shifted-out : (n k : ℕ) → 64 ≤ k → 0 ≡ n % 2 ^ 64 / 2 ^ k
 shifted-out n k h = sym (div-eq-of-lt (lt-of-lt-of-le (mod-lt n (pow-pos 64)) (pow-mono h)))
 
 -- an exponent that is not 0 is an infinity's, a NaN's, or one of digits below a leading one
-by-exponent : (P : Float → Type 0) (s : Bool) (j t : ℕ) → P (inf s) → P nan → P (odd 53 s (2 ^ 52 + t) j 1074) → P (ofFields binary64 s (suc j) t)
+by-exponent : (P : Float → Type 0) (s : Bool) (j t : ℕ) → P (inf s) → P nan → P (odd 53 s (2 ^ 52 + t) j 1074)
+    → P (ofFields binary64 s (suc j) t)
 unfolding ofFields
 by-exponent P s j t i n o = go (eqb (suc j) 2047) (eqb t 0)
   where
@@ -86,7 +87,8 @@ cut-negative zero t = sym (cut-units true t 0)
 cut-negative (suc j) t = by-exponent (λ x. 0 ≡ toUnsigned 64 x) true j t refl refl (sym (cut-units true (2 ^ 52 + t) j))
 
 -- below 2 ^ 64, with a leading one: the shift
-pub cut-normal : (e t : ℕ) → t < 2 ^ 52 → 0 < e → e ≤ 1086 → (2 ^ 52 + t) * 2 ^ 11 % 2 ^ 64 / 2 ^ (1086 - e) ≡ toUnsigned 64 (ofFields binary64 false e t)
+pub cut-normal : (e t : ℕ) → t < 2 ^ 52 → 0 < e → e ≤ 1086
+    → (2 ^ 52 + t) * 2 ^ 11 % 2 ^ 64 / 2 ^ (1086 - e) ≡ toUnsigned 64 (ofFields binary64 false e t)
 unfolding ofFields
 cut-normal zero t ht l h = absurd (omega arith)
 cut-normal (suc j) t ht l h =
@@ -100,12 +102,14 @@ cut-below-one (suc j) t ht h =
     shifted-out ((2 ^ 52 + t) * 2 ^ 11) (1086 - suc j) (omega arith) ∙ cut-normal (suc j) t ht (omega arith) (omega arith)
 
 -- 2 ^ 64 and above, and no NaN: the last u64
-pub cut-top : (e t : ℕ) → 1086 < e → T (not (isNan (ofFields binary64 false e t))) → 2 ^ 64 - 1 ≡ toUnsigned 64 (ofFields binary64 false e t)
+pub cut-top : (e t : ℕ) → 1086 < e → T (not (isNan (ofFields binary64 false e t)))
+    → 2 ^ 64 - 1 ≡ toUnsigned 64 (ofFields binary64 false e t)
 unfolding toUnsigned isNan
 cut-top zero t h = absurd (omega arith)
 cut-top (suc j) t h =
     let g : 1086 ≤ j = omega arith in
-    let l : 2 ^ 64 ≤ (2 ^ 52 + t) * 2 ^ j / 2 ^ 1074 = le-div-iff-mul-le (pow-pos 1074) .1 (mul-le-mul (le-add-right (2 ^ 52) t) (pow-mono g)) in
+    let l : 2 ^ 64 ≤ (2 ^ 52 + t) * 2 ^ j / 2 ^ 1074 = le-div-iff-mul-le (pow-pos 1074) .1
+    (mul-le-mul (le-add-right (2 ^ 52) t) (pow-mono g)) in
     by-exponent (λ x. T (not (isNan x)) → 2 ^ 64 - 1 ≡ toUnsigned 64 x) false j t (λ n. refl) (λ n. absurd n)
     (λ n. sym (cut-units false (2 ^ 52 + t) j ∙ min-eq-right (le-trans (sub-le (2 ^ 64) 1) l)))
 

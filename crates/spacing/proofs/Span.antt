@@ -49,7 +49,8 @@ one-pos len = omega arith
 pub span-most : (num span len : ℕ) → num ≤ len → span < 2 ^ 64 → spanLog2 num span len ≤ 63
 unfolding spanLog2
 span-most num span len h f =
-    let m : num * span ≤ span * max 1 len = rw (mul-comm span (max 1 len)) (mul-le-mul-right span (let g : num ≤ max 1 len = omega arith in g)) in
+    let m : num * span ≤ span * max 1 len = rw (mul-comm span (max 1 len))
+    (mul-le-mul-right span (let g : num ≤ max 1 len = omega arith in g)) in
     let c = ceil-within span (num * span) (max 1 len) (one-pos len) m in
     ilog2-most (max 1 (ceilDiv (num * span) (max 1 len))) 63 (within (ceilDiv (num * span) (max 1 len)) span c f)
   where
@@ -75,6 +76,8 @@ unfolding spanLog2
 span-turn num span len l w p d less k e q r t u =
     let s : less ≡ ltb ((2 ^ l - 1) * max 1 len) (num * span) = t ∙ rw (q, e, r, shl-one l k) in
     record {
-      found = λ a. le-antisymm (log2-here (num * span) (max 1 len) l (one-pos len) (ltb-true ((2 ^ l - 1) * max 1 len) (num * span) (sym s ∙ a))) u;
+      found =
+          λ a. le-antisymm
+          (log2-here (num * span) (max 1 len) l (one-pos len) (ltb-true ((2 ^ l - 1) * max 1 len) (num * span) (sym s ∙ a))) u;
       passed = λ a o. log2-below (num * span) (max 1 len) l (one-pos len) o (ltb-false ((2 ^ l - 1) * max 1 len) (num * span) (sym s ∙ a));
     }

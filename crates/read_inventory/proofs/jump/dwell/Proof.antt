@@ -1,16 +1,11 @@
 -- Refused by the tests, or passed: then the two marks lead to two positions, a's refusal before b's, and these to the dwell.
-use mathlib.Core.List.{_++_}
 use mathlib.Core.Path.{_≡_, sym, ap, _∙_}
 use Prim.Native.Nat.{ℕ}
 use borrow.Author.Needs.{needs}
-use Rattle.rank_sel.specs.Outcome.{Outcome, answer, answered, Conditions, NoneOf}
-use Rattle.rank_sel.proofs.Outcome.{Tells, passed-none, passed-then, stopped-then}
-use Rattle.spacing.specs.Spacing.{N}
-use Rattle.read_inventory.specs.Jump.{dwellAt, dwellOf}
+use Rattle.rank_sel.specs.Outcome.{Outcome, answer, answered}
 use Rattle.read_inventory.specs.Read.{positionOf}
-use Rattle.read_inventory.specs.Tests.{ofIndex, ofRanks}
 use Rattle.read_inventory.proofs.Answers.{MarkRead, position-by, low-by, dwell-stops, dwell-stops-late, dwell-both}
-use Rattle.read_inventory.proofs.Passing.{dwell-held, dwell-first, dwell-second}
+use Rattle.read_inventory.proofs.Passing.{DwellCalled, dwell-held, dwell-first, dwell-second, dwell-passed, dwell-stopped}
 use Rattle.read_inventory.proofs.jump.dwell.Statement.{statement}
 use Rattle.read_inventory.proofs.jump.dwell.Tie as tie
 
@@ -19,35 +14,17 @@ module _ (c : tie.After-test-dwell) where
   abbrev at-start : tie.Start
   at-start = c .before .before .before .before
 
-  abbrev tests : Conditions
-  tests =
-      ofIndex (at-start .args .words .now) (at-start .args .summary) (at-start .args .inventory .now) (at-start .args .spill .now)
-      ++ ofRanks (N (at-start .args .summary .plan)) (at-start .args .a) (at-start .args .b)
-
-  told : Tells tests (c .test-dwell .result)
-  told = record { told = c .test-dwell .ensures }
+  called : let a = at-start .args in
+      DwellCalled (a .words .now) (a .summary) (a .inventory .now) (a .spill .now) (a .a) (a .b) (c .test-dwell .result)
+  called = record { told = c .test-dwell .ensures }
 
   -- the position of a rank
   abbrev position : ℕ → Outcome ℕ
-  position r =
-      positionOf (at-start .args .words .now) (at-start .args .summary) (at-start .args .inventory .now) (at-start .args .spill .now) r
+  position r = let a = at-start .args in positionOf (a .words .now) (a .summary) (a .inventory .now) (a .spill .now) r
 
--- the tests are passed
 module _ (c : tie.After-enum-told) where
   abbrev at-test : tie.After-test-dwell
   at-test = c .before .before
-
-  none : NoneOf (tests at-test)
-  none = passed-none (told at-test) (c .enum-told .given .1)
-
-  dwells : let a = at-start at-test .args in
-      dwellAt (a .words .now) (a .summary) (a .inventory .now) (a .spill .now) (a .a) (a .b)
-      ≡ dwellOf (a .words .now) (a .summary) (a .inventory .now) (a .spill .now) (a .a) (a .b)
-  unfolding dwellOf
-  dwells =
-      let a = at-start at-test .args in
-      passed-then (told at-test) (c .enum-told .given .1)
-      (dwellAt (a .words .now) (a .summary) (a .inventory .now) (a .spill .now) (a .a) (a .b))
 
 -- the mark of a is read, and leads to its position
 module _ (c : tie.After-mark-of) where
@@ -106,25 +83,18 @@ reason-requires : tie.Need-reason-requires
 reason-requires c κs = search needs
 
 returns : tie.Need-returns
-unfolding dwellOf
 returns c =
     let at-refused = c .before in
     let at-tested = at-refused .before .before in
-    let a = at-start at-tested .args in
-    stopped-then (told at-tested) (c .reason .result) (at-refused .enum-told2 .given .1) (c .reason .ensures)
-    (dwellAt (a .words .now) (a .summary) (a .inventory .now) (a .spill .now) (a .a) (a .b))
+    dwell-stopped (called at-tested) (c .reason .result) (at-refused .enum-told2 .given .1) (c .reason .ensures)
 
 mark-of-requires : tie.Need-mark-of-requires
-mark-of-requires c κs =
-    let at-told = c .before in
-    let a = at-start (at-test at-told) .args in
-    dwell-first (a .words .now) (a .summary) (a .inventory .now) (a .spill .now) (a .a) (a .b) (none at-told)
+mark-of-requires c κs = let at-told = c .before in dwell-first (called (at-test at-told)) (at-told .enum-told .given .1)
 
 finish-requires : tie.Need-finish-requires
 finish-requires c κs =
     let at-told = at-passed c in
-    let a = at-start (at-test at-told) .args in
-    (dwell-held (a .words .now) (a .summary) (a .inventory .now) (a .spill .now) (a .a) (a .b) (none at-told) .admitted, low-by (read c))
+    (dwell-held (called (at-test at-told)) (at-told .enum-told .given .1) .admitted, low-by (read c))
 
 enum-known-from : tie.Need-enum-known-from
 enum-known-from c = search needs
@@ -136,20 +106,18 @@ returns-2 : tie.Need-returns-2
 returns-2 c =
     let at-finish = c .before .before in
     dwell-stops _ _ _ _ _ _ (answered (at-finish .finish .result)) _ (first at-finish) (ap answered (c .enum-told3 .given .1))
-    ∙ dwells (at-pass at-finish)
+    ∙ dwell-passed (called (at-test (at-pass at-finish))) (at-pass at-finish .enum-told .given .1)
 
 mark-of-requires-2 : tie.Need-mark-of-requires-2
 mark-of-requires-2 c κs =
     let at-finish = c .before .before .before in
     let at-told = at-pass at-finish in
-    let a = at-start (at-test at-told) .args in
-    dwell-second (a .words .now) (a .summary) (a .inventory .now) (a .spill .now) (a .a) (a .b) (none at-told)
+    dwell-second (called (at-test at-told)) (at-told .enum-told .given .1)
 
 finish-requires-2 : tie.Need-finish-requires-2
 finish-requires-2 c κs =
     let at-told = at-pass (at-first c) in
-    let a = at-start (at-test at-told) .args in
-    (dwell-held (a .words .now) (a .summary) (a .inventory .now) (a .spill .now) (a .a) (a .b) (none at-told) .admitted, low-by (read2 c))
+    (dwell-held (called (at-test at-told)) (at-told .enum-told .given .1) .admitted, low-by (read2 c))
 
 enum-known-to : tie.Need-enum-known-to
 enum-known-to c = search needs
@@ -162,7 +130,7 @@ returns-3 c =
     let at-finish = c .before .before in
     dwell-stops-late _ _ _ _ _ _ _ (answered (at-finish .finish2 .result)) _ (was-first at-finish) (second at-finish)
     (ap answered (c .enum-told4 .given .1))
-    ∙ dwells (at-pass2 at-finish)
+    ∙ dwell-passed (called (at-test (at-pass2 at-finish))) (at-pass2 at-finish .enum-told .given .1)
 
 dwell-by-requires : tie.Need-dwell-by-requires
 dwell-by-requires c κs = search needs
@@ -173,7 +141,7 @@ returns-4 c =
     let at-finish = at-to .before .before in
     c .dwell-by .ensures
     ∙ dwell-both _ _ _ _ _ _ _ _ (was-first at-finish) (sym (ap answered (at-to .to .given .1)) ∙ second at-finish)
-    ∙ dwells (at-pass2 at-finish)
+    ∙ dwell-passed (called (at-test (at-pass2 at-finish))) (at-pass2 at-finish .enum-told .given .1)
 
 pub dwell-spec : {M : Type 1} → statement M
 dwell-spec =

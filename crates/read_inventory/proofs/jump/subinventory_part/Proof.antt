@@ -1,18 +1,11 @@
 -- Refused as hint is; else the mark is decoded, and whether it is spilled says which cells are answered.
-use mathlib.Core.List.{_++_}
-use mathlib.Core.Path.{_≡_, sym, ap, _∙_}
+use mathlib.Core.Path.{sym, ap, _∙_}
 use native.Mathlib.Omega.{arith}
 use borrow.Author.Needs.{needs}
-use Rattle.rank_sel.specs.Outcome.{Conditions, NoneOf}
-use Rattle.rank_sel.proofs.Outcome.{Tells, passed-none, passed-then, stopped-then}
-use Rattle.spacing.specs.Spacing.{N}
-use Rattle.read_inventory.specs.Jump.{hintOf}
-use Rattle.read_inventory.specs.Read.{hintAt}
 use Rattle.read_inventory.specs.Steps.{decoded}
-use Rattle.read_inventory.specs.Tests.{ofIndex, ofRank, Readable}
 use Rattle.read_inventory.proofs.Answers.{read-by, hint-decoded, hint-undecoded}
 use Rattle.read_inventory.proofs.Parts.{Stored, store-refused, store-own, small-m, own-start, own-end, store-over, over-start, over-end, countable}
-use Rattle.read_inventory.proofs.Passing.{call-readable}
+use Rattle.read_inventory.proofs.Passing.{Called, called-readable, hint-passed, hint-stopped}
 use Rattle.read_inventory.proofs.jump.subinventory_part.Statement.{statement}
 use Rattle.read_inventory.proofs.jump.subinventory_part.Tie as tie
 
@@ -21,33 +14,9 @@ module _ (c : tie.After-test-call) where
   abbrev at-start : tie.Start
   at-start = c .before .before .before .before
 
-  abbrev tests : Conditions
-  tests =
-      ofIndex (at-start .args .words .now) (at-start .args .summary) (at-start .args .inventory .now) (at-start .args .spill .now)
-      ++ ofRank (N (at-start .args .summary .plan)) (at-start .args .rank)
-
-  told : Tells tests (c .test-call .result)
-  told = record { told = c .test-call .ensures }
-
--- the tests are passed
-module _ (c : tie.After-enum-told) where
-  abbrev at-test : tie.After-test-call
-  at-test = c .before .before
-
-  none : NoneOf (tests at-test)
-  none = passed-none (told at-test) (c .enum-told .given .1)
-
-  can-read : let a = at-start at-test .args in Readable (a .summary) (a .inventory .now) (a .spill .now) (a .rank)
-  can-read = let a = at-start at-test .args in call-readable (a .words .now) (a .summary) (a .inventory .now) (a .spill .now) (a .rank) none
-
-  -- what hint says is what the cells say
-  hints : let a = at-start at-test .args in
-      hintAt (a .summary) (a .inventory .now) (a .spill .now) (a .rank) ≡ hintOf (a .words .now) (a .summary) (a .inventory .now)
-      (a .spill .now) (a .rank)
-  unfolding hintOf
-  hints =
-      let a = at-start at-test .args in
-      passed-then (told at-test) (c .enum-told .given .1) (hintAt (a .summary) (a .inventory .now) (a .spill .now) (a .rank))
+  called : let a = at-start .args in
+      Called (a .words .now) (a .summary) (a .inventory .now) (a .spill .now) (a .rank) (c .test-call .result)
+  called = record { told = c .test-call .ensures }
 
 -- the mark is decoded
 module _ (c : tie.After-decoded) where
@@ -57,16 +26,20 @@ module _ (c : tie.After-decoded) where
   abbrev at-passed : tie.After-enum-told
   at-passed = at-decode .before
 
-  stored : let a = at-start (at-test at-passed) .args in
+  abbrev at-test : tie.After-test-call
+  at-test = at-passed .before .before
+
+  stored : let a = at-start at-test .args in
       Stored (a .words .now) (a .summary) (a .inventory .now) (a .spill .now) (a .rank) (c .decoded .given .0 .0)
   stored =
-      let a = at-start (at-test at-passed) .args in
+      let a = at-start at-test .args in
       let e = sym (at-decode .decode .ensures) ∙ ap decoded (c .decoded .given .1) in
+      let p = at-passed .enum-told .given .1 in
       record {
-        readable = can-read at-passed;
+        readable = called-readable (called at-test) p;
         read = read-by (a .summary) (a .inventory .now) (a .spill .now) (a .rank) _ e;
         hint = _;
-        hinted = sym (hints at-passed) ∙ hint-decoded (a .summary) (a .inventory .now) (a .spill .now) (a .rank) _ e;
+        hinted = sym (hint-passed (called at-test) p) ∙ hint-decoded (a .summary) (a .inventory .now) (a .spill .now) (a .rank) _ e;
       }
 
 test-call-requires : tie.Need-test-call-requires
@@ -82,19 +55,15 @@ reason-requires : tie.Need-reason-requires
 reason-requires c κs = search needs
 
 returns : tie.Need-returns
-unfolding hintOf
 returns c =
     let at-refused = c .before in
-    let at-call = at-refused .before .before in
-    let a = at-start at-call .args in (
-      store-refused _ _ _ _ _ _
-          (stopped-then (told at-call) (c .reason .result) (at-refused .enum-told2 .given .1) (c .reason .ensures)
-          (hintAt (a .summary) (a .inventory .now) (a .spill .now) (a .rank))),
+    let at-call = at-refused .before .before in (
+      store-refused _ _ _ _ _ _ (hint-stopped (called at-call) (c .reason .result) (at-refused .enum-told2 .given .1) (c .reason .ensures)),
       tt,
     )
 
 decode-requires : tie.Need-decode-requires
-decode-requires c κs = can-read c
+decode-requires c κs = let at-call = c .before .before in called-readable (called at-call) (c .enum-told .given .1)
 
 enum-known-decoded : tie.Need-enum-known-decoded
 enum-known-decoded c = search needs
@@ -106,9 +75,14 @@ returns-2 : tie.Need-returns-2
 returns-2 c =
     let at-code = c .before .before in
     let at-pass = at-code .before in
-    let a = at-start (at-test at-pass) .args in
-    let e = sym (at-code .decode .ensures) ∙ ap decoded (c .enum-told3 .given .1) in
-    (store-refused _ _ _ _ _ _ (sym (hint-undecoded (a .summary) (a .inventory .now) (a .spill .now) (a .rank) e) ∙ hints at-pass), tt)
+    let at-call = at-pass .before .before in
+    let a = at-start at-call .args in
+    let e = sym (at-code .decode .ensures) ∙ ap decoded (c .enum-told3 .given .1) in (
+      store-refused _ _ _ _ _ _
+          (sym (hint-undecoded (a .summary) (a .inventory .now) (a .spill .now) (a .rank) e)
+          ∙ hint-passed (called at-call) (at-pass .enum-told .given .1)),
+      tt,
+    )
 
 add-own : tie.Need-add-own
 add-own c = record { fits = omega (arith, let at-decoded = c .before .before .before in own-start (stored at-decoded)) }
