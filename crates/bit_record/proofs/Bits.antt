@@ -1,6 +1,5 @@
 -- The bits of the ranks below N: they are selected, they rise, and they lie below len.
 use mathlib.Core.List.{List}
-use mathlib.Core.Path.{_≡_}
 use Prim.Native.Nat.{ℕ, _<_}
 use Rattle.rank_sel.proofs.Select.{select-lt, select-below}
 use Rattle.bit_record.specs.Record.{selected, numSelected, bitOf}

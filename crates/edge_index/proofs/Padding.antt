@@ -7,6 +7,7 @@ use lib.Dec.{ltb}
 use lib.ListN.{length, drop}
 use Rattle.rank_sel.specs.Outcome.{Outcome, answer, refused, refuseIf, Conditions, refuseBy, andThen}
 use Rattle.rank_sel.specs.Seek.{select}
+use Rattle.rank_sel.proofs.Outcome.{byOutcome, by-then}
 use Rattle.bit_record.specs.Record.{SameRecord}
 use Rattle.bit_record.specs.declared.Polarity.{Polarity}
 use Rattle.bit_record.proofs.Same.{selected-same, words-same, count-same}
@@ -25,15 +26,6 @@ use Rattle.read_inventory.specs.Tests.{ofIndex, ofRank, ofRanks}
 use Rattle.build_inventory.proofs.Outcomes.{admission}
 use Rattle.edge_index.specs.Padding.{Alike}
 use Rattle.edge_index.specs.Promises.{inventoryHolds, spillHolds}
-
--- by cases on an outcome
-abbrev byOutcome : {A X : Type 0} → (A → X) → (ℕ → X) → Outcome A → X
-byOutcome f g (answer a) = f a
-byOutcome f g (refused n) = g n
-
-by-then : {A B : Type 0} (o : Outcome A) (go : A → Outcome B) → andThen o go ≡ byOutcome go refused o
-by-then (answer a) go = refl
-by-then (refused n) go = refl
 
 by-inventory : (ws inv : List ℕ) (o : Outcome Summary)
     → inventoryAfter ws inv o ≡ byOutcome (λ t. inventoryOf (posIn ws (t .plan)) (t .plan) ++ drop (t .«inventory_len») inv) (λ n. inv) o

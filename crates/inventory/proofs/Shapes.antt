@@ -1,7 +1,6 @@
 -- The facts of a shape, for every kind alike: 1, 2 or 4 lanes fill a cell, and the rest follows from that.
 use mathlib.Core.Path.{_≡_, refl, ap}
-use Prim.Native.Nat.{ℕ, zero, suc, _+_, _*_, _^_, _≤_, _<_}
-use native.Mathlib.Nat.{mul-le-mul-left}
+use Prim.Native.Nat.{ℕ, _+_, _*_, _^_, _≤_, _<_}
 use native.Mathlib.Omega.{arith}
 use lib.Pow.{pow-pos, pow-mono, pow-lt}
 use Rattle.rank_sel.specs.Numbers.{ilog2}

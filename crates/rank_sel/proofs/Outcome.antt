@@ -39,6 +39,15 @@ pub then-then : {A B C : Type 0} (o : Outcome A) (f : A → Outcome B) (g : B �
 then-then (answer a) f g = refl
 then-then (refused n) f g = refl
 
+-- by cases on an outcome
+abbrev pub byOutcome : {A X : Type 0} → (A → X) → (ℕ → X) → Outcome A → X
+byOutcome f g (answer a) = f a
+byOutcome f g (refused n) = g n
+
+pub by-then : {A B : Type 0} (o : Outcome A) (go : A → Outcome B) → andThen o go ≡ byOutcome go refused o
+by-then (answer a) go = refl
+by-then (refused n) go = refl
+
 -- a refusal's number stays, whatever an answer would be
 refused-as : {A B : Type 0} {m n : ℕ} → _≡_ {A = Outcome A} (refused m) (refused n) → _≡_ {A = Outcome B} (refused m) (refused n)
 refused-as {m = m} {n = n} e = let k : m ≡ n = cc in ap refused k

@@ -4,7 +4,7 @@ ghost use mathlib.Core.Path.{_≡_};
 ghost use lib.Dec.{ltb};
 ghost use Rattle.rank_sel.specs.Outcome.{numberOf, testBy, tested};
 ghost use Rattle.spacing.specs.Spacing.{N};
-ghost use Rattle.read_inventory.specs.Tests.{ofCells, ofIndex, ofRank, ofRanks};
+ghost use Rattle.read_inventory.specs.Tests.{ofIndex, ofRank, ofRanks};
 use bit_record::test_record;
 use inventory::Summary;
 use inventory::test_summary;

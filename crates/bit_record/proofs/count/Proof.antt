@@ -1,6 +1,5 @@
 -- Past the test the record's whole words are counted, and the bits of a last word beyond them; from len on the rank is N.
 use mathlib.Core.Path.{_≡_, ap, _∙_}
-use mathlib.Core.List.{List}
 use Prim.Native.Nat.{ℕ, _+_, _*_, _/_}
 use native.Mathlib.Omega.{arith}
 use borrow.Author.Needs.{needs}
