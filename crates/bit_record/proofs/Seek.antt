@@ -20,8 +20,8 @@ use Rattle.select_in_word.proofs.Bit.{bit-past}
 use Rattle.select_in_word.proofs.Holds.{holds-from, holds-less, holds-ones, holds-sought}
 use Rattle.select_in_word.proofs.Select.{word-seek-found, word-seek-missing}
 use Rattle.bit_record.specs.Record.{selected}
-use Rattle.bit_record.proofs.Record.{selected-lt, rank-num}
 use Rattle.bit_record.specs.declared.Polarity.{Polarity}
+use Rattle.bit_record.proofs.Record.{selected-lt, rank-num}
 
 pub record-at : (pol : Polarity) (ws : List ℕ) (len from k p : ℕ) → from ≤ p → selected pol ws len p ≡ true
     → rank (selected pol ws len) p ≡ rank (selected pol ws len) from + k → some p ≡ seek (selected pol ws len) (len - from) from k

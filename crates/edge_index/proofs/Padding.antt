@@ -20,10 +20,10 @@ use Rattle.inventory.specs.declared.summary.Summary.{Summary}
 use Rattle.build_inventory.specs.Build.{Sizes, fitted, sizeOf, buildFrom, buildOf, inventoryAfter, spillAfter, sameSummary, checkOf}
 use Rattle.build_inventory.specs.Compare.{sameIndex}
 use Rattle.build_inventory.specs.Positions.{posIn}
+use Rattle.build_inventory.proofs.Outcomes.{admission}
 use Rattle.read_inventory.specs.Jump.{selectOf, hintOf, dwellAt, dwellOf, storeOf, subinventoryOf}
 use Rattle.read_inventory.specs.Read.{hintAt, positionOf}
 use Rattle.read_inventory.specs.Tests.{ofIndex, ofRank, ofRanks}
-use Rattle.build_inventory.proofs.Outcomes.{admission}
 use Rattle.edge_index.specs.Padding.{Alike}
 use Rattle.edge_index.specs.Promises.{inventoryHolds, spillHolds}
 

@@ -27,15 +27,15 @@ use Rattle.inventory.specs.declared.shape.Shape.{Shape}
 use Rattle.inventory.specs.declared.shape.SpanType.{SpanType}
 use Rattle.inventory.specs.declared.shape.SpanType.the-variants.{U16, U32, U64}
 use Rattle.inventory.specs.declared.summary.Summary.{Summary}
+use Rattle.inventory.proofs.Marks.{start-here}
+use Rattle.inventory.proofs.Ranks.{entry-below, rank-entry, rank-sub, rank-in}
+use Rattle.inventory.proofs.Entries.{kind-whole, kind-headless, some-lanes, spill-heads, in-mark, mark-in, marks-placed, shape-by, spilled-by}
+use Rattle.inventory.proofs.Sums.{sum-part}
 use Rattle.read_inventory.specs.Jump.{selectOf, hintOf, dwellAt, dwellOf, partBy, storeOf, subinventoryOf}
 use Rattle.read_inventory.specs.Read.{cellAt, shapeAt, spilledAt, placeAt, isU64, markNumber, residual, Mark, markOfRank, hintAt, finish, positionOf}
 use Rattle.read_inventory.specs.Tests.{ofIndex, ofRank, ofRanks}
 use Rattle.read_inventory.proofs.Answers.{hint-mark}
 use Rattle.read_inventory.proofs.Passing.{IndexHeld, index-none}
-use Rattle.inventory.proofs.Marks.{start-here}
-use Rattle.inventory.proofs.Ranks.{entry-in, rank-entry, rank-sub, rank-in}
-use Rattle.inventory.proofs.Entries.{kind-whole, kind-headless, some-lanes, spill-heads, in-mark, mark-in, marks-placed, shape-by, spilled-by}
-use Rattle.inventory.proofs.Sums.{sum-part}
 use Rattle.edge_index.specs.Right.{Within, Right}
 use Rattle.edge_index.specs.Sound.{qOf, marksOf, spilledOf, markRank, Sound}
 
@@ -138,7 +138,7 @@ module _ (ws : List ℕ) (len : ℕ) (pol : Polarity) (choice : Choice) (t : Sum
   -- ---- the cells where a mark is recorded
   shape-right : (k : ℕ) → k < entriesOf p → shapeAt t inv k ≡ entryOf pos p k .shape
   unfolding shapeAt
-  shape-right k h = rw (s .kinds k h, s .starts k h, ← start-here pos p k (entry-in p k h)) (sym (shape-by pos p k))
+  shape-right k h = rw (s .kinds k h, s .starts k h, ← start-here pos p k (entry-below p k h)) (sym (shape-by pos p k))
 
   spilled-right : (k : ℕ) → k < entriesOf p → spilledAt t inv k ≡ spilledOf pos p k
   unfolding spilledAt

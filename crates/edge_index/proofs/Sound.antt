@@ -22,15 +22,15 @@ use Rattle.spacing.specs.declared.Choice.{Choice}
 use Rattle.spacing.specs.declared.Parameters.{Parameters}
 use Rattle.spacing.proofs.Facts.{PlanFacts, plan-facts, plan-num}
 use Rattle.inventory.specs.Index.{entriesOf, stride, inventoryLenOf, ranksOf, mark, bound, startOf, spillStart, summaryOf}
-use Rattle.read_inventory.specs.Read.{startAt, hintAt}
 use Rattle.inventory.specs.declared.summary.Summary.{Summary}
 use Rattle.inventory.proofs.Marks.{Rising, rising, start-here}
-use Rattle.build_inventory.specs.Positions.{posIn}
 use Rattle.inventory.proofs.Placed.{Placed}
 use Rattle.inventory.proofs.Entries.{kind-heads, kind-spills, first-rank, mark-in}
-use Rattle.read_inventory.proofs.ReadBack.{kind-read, start-read, quantum-read, second-read, unused-read, hint-read}
-use Rattle.inventory.proofs.Ranks.{entry-in, in-entry, rank-entry, rank-sub, rank-in}
+use Rattle.inventory.proofs.Ranks.{entry-below, in-entry, rank-entry, rank-sub, rank-in}
 use Rattle.inventory.proofs.Sums.{tile, tile-one}
+use Rattle.build_inventory.specs.Positions.{posIn}
+use Rattle.read_inventory.specs.Read.{startAt, hintAt}
+use Rattle.read_inventory.proofs.ReadBack.{kind-read, start-read, quantum-read, second-read, unused-read, hint-read}
 use Rattle.edge_index.specs.Sound.{Bit, EntryHolds, qOf, marksOf, spilledOf, markRank, nextRank, Met, Sound}
 
 -- each rank lies in one entry
@@ -148,17 +148,17 @@ module _ (ws : List ℕ) (len : ℕ) (pol : Polarity) (choice : Choice) (p : Par
 
     -- an entry's start as read, and the selected bits from it on
     starts : (e : ℕ) → e < entriesOf p → startAt t inv e ≡ pos (e * 2 ^ L p)
-    starts e h = start-read pos p g (facts .of .spaced) inv sp w e h ∙ start-here pos p e (entry-in p e h)
+    starts e h = start-read pos p g (facts .of .spaced) inv sp w e h ∙ start-here pos p e (entry-below p e h)
 
     start-rank : (e : ℕ) → e < entriesOf p → rank f (startAt t inv e) ≡ e * 2 ^ L p
-    start-rank e h = ap (rank f) (starts e h) ∙ bit-rank (e * 2 ^ L p) (entry-in p e h)
+    start-rank e h = ap (rank f) (starts e h) ∙ bit-rank (e * 2 ^ L p) (entry-below p e h)
 
     whole : (e : ℕ) → e + 1 < entriesOf p
         → (rank f (startAt t inv (e + 1)) ≡ rank f (startAt t inv e) + ranksOf p e) × (ranksOf p e ≡ 2 ^ L p)
     unfolding ranksOf
     whole e h =
         let m = add-mul e 1 (2 ^ L p) in
-        let n = entry-in p (e + 1) h in
+        let n = entry-below p (e + 1) h in
         let r : ranksOf p e ≡ 2 ^ L p = omega arith in
         (omega (arith, start-rank e (omega arith), start-rank (e + 1) h), r)
 
@@ -167,7 +167,7 @@ module _ (ws : List ℕ) (len : ℕ) (pol : Polarity) (choice : Choice) (p : Par
     unfolding ranksOf numSelected
     last e h =
         let m = add-mul e 1 (2 ^ L p) in
-        let n = entry-in p e (omega arith) in
+        let n = entry-below p e (omega arith) in
         let l : N p ≤ (e + 1) * 2 ^ L p = rw h covered in
         (omega (arith, start-rank e (omega arith), plan-num ws len pol p facts), omega arith, omega arith)
 

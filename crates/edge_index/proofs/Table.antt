@@ -11,11 +11,11 @@ use Rattle.spacing.specs.Spacing.{cappedLog2Words, chosenPlan, overheadSpan, ov
 use Rattle.inventory.specs.Index.{bound, entriesOf, entryFrom, entryOf, inventoryLenOf, inventoryOf, inventoryTo, lane, mark, ownCells, packed, ranksOf, spillCells, spillOf, spillStart, spillTo, startOf, stream, summaryOf}
 use Rattle.inventory.specs.Lanes.{laneOf, pack, tabulate}
 use Rattle.inventory.specs.Lawful.{unlawful}
-use Rattle.read_inventory.specs.Jump.{dwellAt, dwellOf, selectOf}
-use Rattle.read_inventory.specs.Read.{cellAt, kindAt, markAt, markNumber, markOfRank, numberAt, placeAt, positionOf, quantumAt, residual, shapeAt, spanAt, startAt}
 use Rattle.inventory.specs.Shape.{log2OnesPerSub32}
 use Rattle.build_inventory.specs.Build.{buildFrom, buildOf, checkOf, fitted, samePlan, sameSummary}
 use Rattle.build_inventory.specs.Compare.{sameIndex, sameList}
+use Rattle.read_inventory.specs.Jump.{dwellAt, dwellOf, selectOf}
+use Rattle.read_inventory.specs.Read.{cellAt, kindAt, markAt, markNumber, markOfRank, numberAt, placeAt, positionOf, quantumAt, residual, shapeAt, spanAt, startAt}
 use Rattle.edge_index.specs.Table.{Agree, table}
 
 pub table-agrees : Agree table

@@ -7,9 +7,9 @@ use Rattle.bit_record.specs.Record.{countOf}
 use Rattle.bit_record.specs.declared.Polarity.{Polarity}
 use Rattle.spacing.specs.Spacing.{planOf}
 use Rattle.spacing.specs.declared.Choice.{Choice}
-use Rattle.read_inventory.specs.Jump.{selectOf, hintOf, dwellOf, subinventoryOf}
 use Rattle.inventory.specs.declared.summary.Summary.{Summary}
 use Rattle.build_inventory.specs.Build.{sizeOf, checkOf}
+use Rattle.read_inventory.specs.Jump.{selectOf, hintOf, dwellOf, subinventoryOf}
 use Rattle.edge_index.specs.Promises.{buildAnswers, inventoryHolds, spillHolds}
 
 pub record Alike (len : ℕ) (ws vs : List ℕ) : Type 0 where

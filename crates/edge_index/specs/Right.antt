@@ -3,12 +3,12 @@ use mathlib.Core.List.{List}
 use mathlib.Core.Path.{_≡_}
 use Prim.Native.Nat.{ℕ, _+_, _-_, _/_, _%_, _^_, _≤_, _<_}
 use Rattle.rank_sel.specs.Outcome.{answer, refused}
+use Rattle.bit_record.specs.Record.{bitOf}
 use Rattle.bit_record.specs.declared.Polarity.{Polarity}
 use Rattle.spacing.specs.Spacing.{N, L}
+use Rattle.inventory.specs.declared.summary.Summary.{Summary}
 use Rattle.read_inventory.specs.Read.{Place, start, own, over, placeAt, markNumber}
 use Rattle.read_inventory.specs.Jump.{selectOf, hintOf, dwellOf, Part, ofInventory, ofSpill, empty, subinventoryOf}
-use Rattle.inventory.specs.declared.summary.Summary.{Summary}
-use Rattle.bit_record.specs.Record.{bitOf}
 use Rattle.edge_index.specs.Sound.{Bit, qOf, markRank}
 
 -- a part of the cells has the cell at a place; a U64 entry's start is not one of its numbers, and goes with its own cells

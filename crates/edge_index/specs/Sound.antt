@@ -14,10 +14,10 @@ use Rattle.spacing.specs.Spacing.{N, L, M, planOf}
 use Rattle.spacing.specs.declared.Choice.{Choice}
 use Rattle.spacing.specs.declared.Parameters.{Parameters}
 use Rattle.inventory.specs.Index.{entriesOf, stride, ranksOf, kindOf, entryOf}
-use Rattle.read_inventory.specs.Read.{cellAt, kindAt, startAt, quantumAt, placeAt, numberAt, hintAt}
 use Rattle.inventory.specs.Shape.{nearBy}
 use Rattle.inventory.specs.declared.shape.SpanType.the-variants.{U16}
 use Rattle.inventory.specs.declared.summary.Summary.{Summary}
+use Rattle.read_inventory.specs.Read.{cellAt, kindAt, startAt, quantumAt, placeAt, numberAt, hintAt}
 
 -- position p is the bit of rank r: below len, selected, with exactly r selected positions before it (Vigna's select)
 pub record Bit (ws : List ℕ) (len : ℕ) (pol : Polarity) (r p : ℕ) : Type 0 where

@@ -15,11 +15,11 @@ use Rattle.spacing.specs.Spacing.{asF64, cappedLog2Words, overheadSpan, planOf,
 use Rattle.spacing.specs.declared.Choice.{Choice}
 use Rattle.spacing.specs.declared.Choice.the-variants.{Default, Span, Power, Overhead}
 use Rattle.spacing.specs.declared.Parameters.{Parameters}
-use Rattle.read_inventory.specs.Jump.{selectOf, dwellOf}
 use Rattle.inventory.specs.Shape.{fromSpan, log2OnesPerSub32}
 use Rattle.inventory.specs.declared.shape.SpanType.the-variants.{U16, U32, U64}
 use Rattle.inventory.specs.declared.summary.Summary.{Summary}
 use Rattle.build_inventory.specs.Build.{checkOf}
+use Rattle.read_inventory.specs.Jump.{selectOf, dwellOf}
 use Rattle.edge_index.specs.Promises.{buildAnswers, inventoryHolds}
 
 -- a value as defined, and as stated

@@ -10,10 +10,10 @@ use lib.ListN.{length, getD}
 use Rattle.rank_sel.specs.Outcome.{Outcome, answer, refused, refuseIf, andThen}
 use Rattle.bit_record.specs.Record.{countOf}
 use Rattle.spacing.specs.Spacing.{planOf}
-use Rattle.read_inventory.specs.Read.{Hint}
-use Rattle.read_inventory.specs.Jump.{Part, ofInventory, ofSpill, empty, selectOf, hintOf, dwellOf, storeOf}
 use Rattle.inventory.specs.declared.summary.Summary.{Summary}
 use Rattle.build_inventory.specs.Build.{Sizes, sizeOf, buildOf, checkOf, inventoryAfter, spillAfter}
+use Rattle.read_inventory.specs.Read.{Hint}
+use Rattle.read_inventory.specs.Jump.{Part, ofInventory, ofSpill, empty, selectOf, hintOf, dwellOf, storeOf}
 use Rattle.edge_index_c.specs.Codes.{badCode, known, polarityAt, choiceAt, summaryAt, numbersOf, uncounted}
 
 -- ---- what a call whose outcome is o leaves

@@ -6,9 +6,9 @@ use Prim.Native.Nat.{ℕ}
 use Rattle.bit_record.specs.declared.Polarity.{Polarity}
 use Rattle.spacing.specs.Spacing.{planOf}
 use Rattle.spacing.specs.declared.Choice.{Choice}
-use Rattle.read_inventory.specs.Jump.{selectOf, hintOf, dwellOf, subinventoryOf}
 use Rattle.inventory.specs.declared.summary.Summary.{Summary}
 use Rattle.build_inventory.specs.Build.{sizeOf, buildOf, checkOf}
+use Rattle.read_inventory.specs.Jump.{selectOf, hintOf, dwellOf, subinventoryOf}
 
 pub record SameChoice (c d : Choice) : Type 0 where
   pub plan : (ws : List ℕ) (len : ℕ) (pol : Polarity) → planOf ws len pol c ≡ planOf ws len pol d

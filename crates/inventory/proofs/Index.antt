@@ -1,23 +1,18 @@
 -- Laws of the whole index: what one entry more adds, and how long it is.
 use mathlib.Core.Path.{_≡_, sym, ap, _∙_}
 use mathlib.Core.List.{_++_}
-use Prim.Native.Nat.{ℕ, zero, suc, _+_, _*_, _^_, _≤_, _<_}
+use Prim.Native.Nat.{ℕ, zero, suc, _+_, _*_, _^_, _≤_}
 use native.Mathlib.Nat.{zero-mul, suc-mul}
 use native.Mathlib.Numerals.{add-one}
 use native.Mathlib.Omega.{arith}
 use lib.ListN.{length, length-append}
 use lib.Pow.{pow-pos}
-use Rattle.spacing.specs.Spacing.{N, L, M}
-use Rattle.spacing.specs.declared.Parameters.{Parameters}
-use Rattle.inventory.specs.Index.{entriesOf, stride, entryOf, ownCells, spillCells, spillStart, inventoryTo, spillTo}
-use Rattle.inventory.proofs.Marks.{few-heads, few-spilled, own-length, spill-length}
-use Rattle.rank_sel.proofs.Ceil.{ceil-lt}
 use Rattle.rank_sel.proofs.Numbers.{sum-zero, sum-suc, sum-mono}
+use Rattle.spacing.specs.Spacing.{L, M}
+use Rattle.spacing.specs.declared.Parameters.{Parameters}
+use Rattle.inventory.specs.Index.{stride, entryOf, ownCells, spillCells, spillStart, inventoryTo, spillTo}
+use Rattle.inventory.proofs.Marks.{few-heads, few-spilled, own-length, spill-length}
 use Rattle.inventory.proofs.Lanes.{turn-more}
-
-pub entry-below : (p : Parameters) (e : ℕ) → e < entriesOf p → e * 2 ^ L p < N p
-unfolding entriesOf
-entry-below p e h = ceil-lt e (N p) (2 ^ L p) (pow-pos (L p)) h
 
 module _ (pos : ℕ → ℕ) (p : Parameters) where
   pub spillStart-none : spillStart pos p 0 ≡ 0

@@ -14,9 +14,9 @@ pub mark-among : (s n q : ℕ) → s < n → s / 2 ^ q < ceilDiv n (2 ^ q)
 mark-among s n q h = below-ceil (s / 2 ^ q) n (2 ^ q) (pow-pos q) (omega (arith, div-mul-le-self s (2 ^ q)))
 
 module _ (p : Parameters) where
-  pub entry-in : (e : ℕ) → e < entriesOf p → e * 2 ^ L p < N p
+  pub entry-below : (e : ℕ) → e < entriesOf p → e * 2 ^ L p < N p
   unfolding entriesOf
-  entry-in e h = ceil-lt e (N p) (2 ^ L p) (pow-pos (L p)) h
+  entry-below e h = ceil-lt e (N p) (2 ^ L p) (pow-pos (L p)) h
 
   pub in-entry : (e : ℕ) → e * 2 ^ L p < N p → e < entriesOf p
   unfolding entriesOf

@@ -10,31 +10,31 @@ use lib.ListN.{length, getD}
 use lib.Pow.{pow-pos, pow-mono, pow-add, shr-lt}
 use borrow.Author.Tests.{le-leb, lt-leb}
 use Rattle.rank_sel.specs.Outcome.{Outcome, answer, refused, refuseIf, andThen}
-use Rattle.spacing.specs.Spacing.{L, M, S}
 use Rattle.rank_sel.proofs.Numbers.{ilog2-unique}
 use Rattle.rank_sel.proofs.Outcome.{answer-is, not-refused, refused-holds, then-then}
+use Rattle.spacing.specs.Spacing.{L, M, S}
 use Rattle.inventory.specs.Index.{stride, inventoryLenOf}
 use Rattle.inventory.specs.Lanes.{laneOf}
-use Rattle.read_inventory.specs.Read.{tagged, kindAt, spanAt, quantumAt, shapeAt, Place, start, own, over, placeAt, numberAt, spanTooSmall, markAt, entryOfRank, markNumber, residual, markOfRank}
-use Rattle.read_inventory.specs.Steps.{headOf, EntryLent, HeadIn, isOver, numbered, numberOfMark, spacingAt, decodedBy, decodeOf, markBy}
-use Rattle.read_inventory.specs.Tests.{Readable}
 use Rattle.inventory.specs.Shape.{shapeOf}
 use Rattle.inventory.specs.declared.shape.Shape.{Shape}
+use Rattle.inventory.specs.declared.shape.SpanType.the-variants.{U16}
+use Rattle.inventory.specs.declared.summary.Summary.{Summary}
 use Rattle.inventory.proofs.Marks.{quantum-le}
 use Rattle.inventory.proofs.Ranks.{rank-entry}
 use Rattle.inventory.proofs.Shapes.{shaped}
-use Rattle.read_inventory.proofs.Reading.{tagged-16, spot-own, head-read, kind-as, spacing-16, Spotted, own-in, number-own}
-use Rattle.inventory.specs.declared.shape.SpanType.the-variants.{U16}
-use Rattle.inventory.specs.declared.summary.Summary.{Summary}
+use Rattle.read_inventory.specs.Read.{tagged, kindAt, spanAt, quantumAt, shapeAt, Place, start, own, over, placeAt, numberAt, spanTooSmall, markAt, entryOfRank, markNumber, residual, markOfRank}
+use Rattle.read_inventory.specs.Steps.{headOf, EntryLent, HeadIn, isOver, numbered, numberOfMark, spacingAt, decodedBy, decodeOf, markBy}
+use Rattle.read_inventory.specs.Tests.{Readable}
 use Rattle.read_inventory.specs.declared.decode.Decoded.{Decoded}
 use Rattle.read_inventory.specs.declared.decode.Head.{Head}
 use Rattle.read_inventory.specs.declared.decode.Number.the-variants.{Is, Missing}
 use Rattle.read_inventory.specs.declared.decode.Spot.the-variants.{Own}
+use Rattle.read_inventory.proofs.Reading.{tagged-16, spot-own, head-read, kind-as, spacing-16, Spotted, own-in, number-own}
 
 -- ---- the entry of a rank below N
-pub entry-in : (t : Summary) (inv sp : List ℕ) (r : ℕ) → Readable t inv sp r → EntryLent t inv (entryOfRank t r)
+pub entry-lent : (t : Summary) (inv sp : List ℕ) (r : ℕ) → Readable t inv sp r → EntryLent t inv (entryOfRank t r)
 unfolding inventoryLenOf
-entry-in t inv sp r a = record {
+entry-lent t inv sp r a = record {
   smallM = a .lawful .smallM;
   within =
       let l = mul-le-mul-right (stride (t .plan)) (rank-entry (t .plan) r (a .below)) in
@@ -94,7 +94,7 @@ module _ {t : Summary} {inv sp : List ℕ} {r : ℕ} {h : Head} (w : Headed t in
 
   pub head-in : HeadIn t inv h
   head-in = record {
-    lent = rw entry-is (entry-in t inv sp r (w .readable));
+    lent = rw entry-is (entry-lent t inv sp r (w .readable));
     read = w .read ∙ ap (λ (e : ℕ). headOf t inv e) (sym entry-is);
   }
 
@@ -190,7 +190,7 @@ module _ {t : Summary} {inv sp : List ℕ} {r c sub : ℕ} (w : Quartered t inv 
         simp sub-zero at
         (spot-own (shapeOf U16 (getD inv c 0)) (M (t .plan)) (sub / 2 ^ S (t .plan)) (shaped U16 (getD inv c 0)) 2 (2 ^ M (t .plan))
         (sym (ilog2-unique 4 2 (omega arith) (omega arith))) refl (omega arith) (omega (arith, quarter-near)) _ refl);
-    lent = entry-in t inv sp r (w .readable);
+    lent = entry-lent t inv sp r (w .readable);
   }
 
   pub quarter-in : c + 1 + sub / 2 ^ S (t .plan) / 4 < length inv

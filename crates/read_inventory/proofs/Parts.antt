@@ -21,7 +21,7 @@ use Rattle.read_inventory.specs.Tests.{Readable}
 use Rattle.read_inventory.specs.declared.decode.Decoded.{Decoded}
 use Rattle.read_inventory.specs.declared.decode.Head.{Head}
 use Rattle.read_inventory.proofs.Answers.{ReadAs, over-low}
-use Rattle.read_inventory.proofs.Decoding.{entry-in, quantum-at-low}
+use Rattle.read_inventory.proofs.Decoding.{entry-lent, quantum-at-low}
 
 -- the entry's own cells, or its spilled ones
 part-near : (t : Summary) (inv : List ℕ) (e : ℕ) (p : Place) → isOver p ≡ false
@@ -80,7 +80,7 @@ module _ {ws : List ℕ} {t : Summary} {inv sp : List ℕ} {r : ℕ} {d : Decode
   small-m = omega (arith, s .readable .lawful .smallM)
 
   pub own-end : d .head .cell + 1 + 2 ^ M (t .plan) ≤ length inv
-  own-end = omega (arith, cell-is, entry-in t inv sp r (s .readable) .within)
+  own-end = omega (arith, cell-is, entry-lent t inv sp r (s .readable) .within)
 
   pub own-start : d .head .cell + 1 < length inv
   own-start = omega (arith, own-end, pow-pos (M (t .plan)))

@@ -18,7 +18,6 @@ use Rattle.spacing.specs.Spacing.{L, M, S}
 use Rattle.spacing.specs.declared.Parameters.{Parameters}
 use Rattle.inventory.specs.Index.{entriesOf, stride, ranksOf, mark, lane, packed, startOf, spanOf, kindOf, entryOf, spillStart, summaryOf}
 use Rattle.inventory.specs.Lanes.{laneOf}
-use Rattle.read_inventory.specs.Read.{tagged, startBy, cellAt, kindAt, startAt, spanAt, quantumAt, shapeAt, start, own, over, placeAt, numberAt, spanTooSmall, markAt, markNumber, residual, isU64, markOfRank, hintAt}
 use Rattle.inventory.specs.Shape.{nearBy, fromSpan, shapeOf}
 use Rattle.inventory.specs.declared.entry.Entry.{Entry}
 use Rattle.inventory.specs.declared.shape.SpanType.{SpanType}
@@ -28,8 +27,9 @@ use Rattle.inventory.proofs.Marks.{Rising, Streamable, entry-streamable, lane-i
 use Rattle.inventory.proofs.Entries.{entry-by, first-mark, some-lanes, spill-heads, in-mark, marks-placed}
 use Rattle.inventory.proofs.Index.{spillStart-more, spillStart-mono}
 use Rattle.inventory.proofs.Placed.{own-first, own-second, own-cell, spill-cell, Placed}
-use Rattle.inventory.proofs.Ranks.{entry-in, ranks-most}
+use Rattle.inventory.proofs.Ranks.{entry-below, ranks-most}
 use Rattle.inventory.proofs.Unpack.{pack-lane}
+use Rattle.read_inventory.specs.Read.{tagged, startBy, cellAt, kindAt, startAt, spanAt, quantumAt, shapeAt, start, own, over, placeAt, numberAt, spanTooSmall, markAt, markNumber, residual, isU64, markOfRank, hintAt}
 
 -- ---- the first cell
 tag-back : (k : SpanType) (s : ℕ) → s < 2 ^ 62 → tagged ((s + shapeOf k s .tag) / 2 ^ 62) ≡ k
@@ -68,7 +68,7 @@ module _ (pos : ℕ → ℕ) (p : Parameters) (g : Rising pos p) (spaced : S p �
     first-cell : (e : ℕ) → e < entriesOf p
         → getD inv (e * stride p + 0) 0 ≡ startOf pos p e + shapeOf (kindOf pos p e) (startOf pos p e) .tag
     first-cell e h = w .own e 0 h (omega arith)
-        ∙ own-first pos (entryOf pos p e) (entry-streamable pos p g e (entry-in p e h) .shaped .heads) (spillStart pos p e) (2 ^ M p)
+        ∙ own-first pos (entryOf pos p e) (entry-streamable pos p g e (entry-below p e h) .shaped .heads) (spillStart pos p e) (2 ^ M p)
         ∙ ap (λ (x : Entry). x .start + x .shape .tag) (entry-by pos p e)
 
     low-cell : (e : ℕ) → e ≤ entriesOf p → getD inv (e * stride p + 0) 0 % 2 ^ 62 ≡ startOf pos p e
@@ -86,7 +86,7 @@ module _ (pos : ℕ → ℕ) (p : Parameters) (g : Rising pos p) (spaced : S p �
       x = entryOf pos p e
 
       streams : Streamable pos p x
-      streams = entry-streamable pos p g e (entry-in p e h)
+      streams = entry-streamable pos p g e (entry-below p e h)
 
       -- ---- the entry as read
       pub kind-read : kindAt t inv e ≡ kindOf pos p e
@@ -213,7 +213,7 @@ module _ (pos : ℕ → ℕ) (p : Parameters) (g : Rising pos p) (spaced : S p �
       -- an entry has a mark
       some-marks : 0 < x .marks
       unfolding ranksOf
-      some-marks = omega (arith, in-mark pos p e 0 (omega (arith, entry-in p e h, pow-pos (L p))))
+      some-marks = omega (arith, in-mark pos p e 0 (omega (arith, entry-below p e h, pow-pos (L p))))
 
       -- unused lanes are zero
       pub unused-read : (i : ℕ) → x .marks ≤ i → i < near + x .spilled * lanes → numberAt t inv sp e (placeAt t inv e i) ≡ answer 0

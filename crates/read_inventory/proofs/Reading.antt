@@ -11,19 +11,19 @@ use lib.Pow.{pow-pos}
 use borrow.Author.Tests.{le-ltb, lt-ltb, le-leb, lt-leb}
 use Rattle.rank_sel.specs.Numbers.{ilog2}
 use Rattle.rank_sel.specs.Outcome.{answer, refused}
+use Rattle.select_in_word.proofs.Tail.{mask-shr, and-tail}
 use Rattle.spacing.specs.Spacing.{M, S, maxLog2Words}
 use Rattle.spacing.proofs.Facts.{few-words}
-use Rattle.inventory.proofs.Shapes.{shaped, lanes-pos, lane-within}
-use Rattle.select_in_word.proofs.Tail.{mask-shr, and-tail}
 use Rattle.inventory.specs.Lanes.{laneOf}
 use Rattle.inventory.specs.Index.{stride}
-use Rattle.read_inventory.specs.Read.{tagged, startBy, cellAt, kindAt, startAt, spanAt, quantumAt, shapeAt, placeAt, numberAt}
 use Rattle.inventory.specs.Shape.{nearBy, Shaped, log2OnesPerSub32, shapeOf}
-use Rattle.read_inventory.specs.Steps.{headOf, EntryLent, spacingAt, spotPlace, spotIn, numbered, SpotFor}
 use Rattle.inventory.specs.declared.shape.Shape.{Shape}
 use Rattle.inventory.specs.declared.shape.SpanType.{SpanType}
 use Rattle.inventory.specs.declared.shape.SpanType.the-variants.{U16, U32, U64}
 use Rattle.inventory.specs.declared.summary.Summary.{Summary}
+use Rattle.inventory.proofs.Shapes.{shaped, lanes-pos, lane-within}
+use Rattle.read_inventory.specs.Read.{tagged, startBy, cellAt, kindAt, startAt, spanAt, quantumAt, shapeAt, placeAt, numberAt}
+use Rattle.read_inventory.specs.Steps.{headOf, EntryLent, spacingAt, spotPlace, spotIn, numbered, SpotFor}
 use Rattle.read_inventory.specs.declared.decode.Head.{Head}
 use Rattle.read_inventory.specs.declared.decode.Spot.{Spot}
 use Rattle.read_inventory.specs.declared.decode.Spot.the-variants.{Start, Own, Over}

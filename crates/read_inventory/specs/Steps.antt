@@ -8,9 +8,9 @@ use Rattle.rank_sel.specs.Outcome.{Outcome, answer, refused, refuseIf, andThen}
 use Rattle.spacing.specs.Spacing.{maxLog2Words, N, L, M}
 use Rattle.spacing.specs.declared.Parameters.{Parameters}
 use Rattle.inventory.specs.Index.{stride}
-use Rattle.read_inventory.specs.Read.{kindAt, startAt, spanAt, quantumAt, Place, start, own, over, placeBy, placeAt, numberAt, spanTooSmall, markAt, entryOfRank, markNumber, residual, isU64, Mark}
 use Rattle.inventory.specs.declared.shape.Shape.{Shape}
 use Rattle.inventory.specs.declared.summary.Summary.{Summary}
+use Rattle.read_inventory.specs.Read.{kindAt, startAt, spanAt, quantumAt, Place, start, own, over, placeBy, placeAt, numberAt, spanTooSmall, markAt, entryOfRank, markNumber, residual, isU64, Mark}
 use Rattle.read_inventory.specs.declared.decode.Decoded.{Decoded}
 use Rattle.read_inventory.specs.declared.decode.Decoding.{Decoding}
 use Rattle.read_inventory.specs.declared.decode.Decoding.the-variants as Decoding·v

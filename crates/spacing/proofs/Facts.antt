@@ -12,14 +12,14 @@ use lib.Pow.{pow-mono}
 use borrow.Author.Tests.{ltb-false}
 use Rattle.rank_sel.specs.Numbers.{clog2}
 use Rattle.rank_sel.specs.Outcome.{answer}
+use Rattle.rank_sel.proofs.Outcome.{answer-is, then-answer, passed-all}
 use Rattle.bit_record.specs.Record.{numSelected, countOf, Admitted}
 use Rattle.bit_record.specs.declared.Polarity.{Polarity}
-use Rattle.rank_sel.proofs.Outcome.{answer-is, then-answer, passed-all}
 use Rattle.bit_record.proofs.Counted.{counted}
 use Rattle.bit_record.proofs.Record.{num-le}
+use Rattle.spacing.specs.Spacing.{N, Rule, span, power, overhead, fixed, rule, spanLog2, overheadTarget, overheadSpan, cappedLog2Words, planWith, capped, planFor, onesPerInventoryTooLarge, maxLog2Words, wordsPerSubinventoryTooLarge, ofRule, chosenPlan, planOf, PlanOf}
 use Rattle.spacing.specs.declared.Choice.{Choice}
 use Rattle.spacing.specs.declared.Parameters.{Parameters}
-use Rattle.spacing.specs.Spacing.{N, Rule, span, power, overhead, fixed, rule, spanLog2, overheadTarget, overheadSpan, cappedLog2Words, planWith, capped, planFor, onesPerInventoryTooLarge, maxLog2Words, wordsPerSubinventoryTooLarge, ofRule, chosenPlan, planOf, PlanOf}
 use Rattle.spacing.proofs.Span.{span-most}
 
 -- what holds of every plan that is answered

@@ -1,7 +1,7 @@
 -- The definition reads the same bit of the same word; in each arm the polarity is what the match tells.
 use borrow.Author.Needs.{needs}
-use Rattle.bit_record.specs.Record.{bitAt}
 use Rattle.select_in_word.specs.Bit.{bit}
+use Rattle.bit_record.specs.Record.{bitAt}
 use Rattle.bit_record.proofs.is_selected.Statement.{statement}
 use Rattle.bit_record.proofs.is_selected.Tie as tie
 

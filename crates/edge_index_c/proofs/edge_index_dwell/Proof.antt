@@ -2,8 +2,8 @@
 use mathlib.Core.Path.{refl, ap, _∙_}
 use borrow.Author.Tests.{lt-ltb, le-ltb}
 use borrow.Author.Needs.{needs}
-use Rattle.read_inventory.specs.Jump.{dwellOf}
 use Rattle.inventory.specs.declared.summary.Summary.{Summary}
+use Rattle.read_inventory.specs.Jump.{dwellOf}
 use Rattle.edge_index_c.specs.Calls.{dwellC}
 use Rattle.edge_index_c.proofs.Returns.{returned-as}
 use Rattle.edge_index_c.proofs.edge_index_dwell.Statement.{statement}

@@ -2,8 +2,8 @@
 use mathlib.Core.Path.{refl, sym, ap, _∙_}
 use borrow.Author.Tests.{lt-ltb, le-ltb}
 use borrow.Author.Needs.{needs}
-use Rattle.read_inventory.specs.Jump.{hinted, hintOf}
 use Rattle.inventory.specs.declared.summary.Summary.{Summary}
+use Rattle.read_inventory.specs.Jump.{hinted, hintOf}
 use Rattle.edge_index_c.specs.Calls.{hintC}
 use Rattle.edge_index_c.proofs.Returns.{returned-yes, returned-no}
 use Rattle.edge_index_c.proofs.edge_index_hint.Statement.{statement}

@@ -5,7 +5,7 @@ use native.Mathlib.Omega.{arith}
 use lib.ListN.{length}
 use borrow.Author.Needs.{needs}
 use Rattle.inventory.specs.Index.{entriesOf, stride}
-use Rattle.inventory.proofs.Index.{entry-below}
+use Rattle.inventory.proofs.Ranks.{entry-below}
 use Rattle.build_inventory.specs.Positions.{posIn, EntryIn}
 use Rattle.build_inventory.proofs.Fill.{Standing, stand-none, stand-end, stand-last, stand-cells, stand-spill, stand-more}
 use Rattle.build_inventory.proofs.Parts.{part-fits}

@@ -6,7 +6,7 @@ use lib.ListN.{length}
 use borrow.Author.Needs.{needs}
 use borrow.Author.Tests.{not-true, not-false}
 use Rattle.inventory.specs.Index.{entriesOf, stride}
-use Rattle.inventory.proofs.Index.{entry-below}
+use Rattle.inventory.proofs.Ranks.{entry-below}
 use Rattle.build_inventory.specs.Positions.{posIn, EntryIn}
 use Rattle.build_inventory.proofs.Comparing.{Agreeing, agree-none, agree-end, agree-last, agree-cells, agree-spill, agree-more, agree-stop}
 use Rattle.build_inventory.proofs.Parts.{part-fits}

@@ -5,7 +5,8 @@ use native.Mathlib.Omega.{arith}
 use lib.Pow.{pow-mono}
 use Rattle.spacing.specs.Spacing.{L}
 use Rattle.inventory.specs.Index.{entriesOf, spillStart}
-use Rattle.inventory.proofs.Index.{entry-below, spillStart-few}
+use Rattle.inventory.proofs.Index.{spillStart-few}
+use Rattle.inventory.proofs.Ranks.{entry-below}
 use Rattle.inventory.proofs.Lanes.{turn-more}
 use Rattle.build_inventory.specs.Positions.{posIn}
 use Rattle.build_inventory.proofs.Turns.{Reached, reached-none, reached-more}

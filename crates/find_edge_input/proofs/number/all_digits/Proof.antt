@@ -5,8 +5,8 @@ use native.Mathlib.Omega.{arith}
 use lib.ListN.{length, drop}
 use borrow.Author.Needs.{needs}
 use borrow.Author.Tests.{not-true, not-false}
-use Rattle.find_edge_input.proofs.Digits.{digits-stop, digits-go, digits-end}
 use Rattle.find_edge_input.specs.Number.{allDigits}
+use Rattle.find_edge_input.proofs.Digits.{digits-stop, digits-go, digits-end}
 use Rattle.find_edge_input.proofs.number.all_digits.Statement.{statement}
 use Rattle.find_edge_input.proofs.number.all_digits.Tie as tie
 

@@ -6,8 +6,8 @@ use native.Mathlib.Omega.{arith}
 use lib.ListN.{length, drop}
 use borrow.Author.Needs.{needs}
 use borrow.Author.Tests.{lt-ltb, le-ltb}
-use Rattle.find_edge_input.proofs.Digits.{value-go, value-over, value-end}
 use Rattle.find_edge_input.specs.Number.{valueFrom}
+use Rattle.find_edge_input.proofs.Digits.{value-go, value-over, value-end}
 use Rattle.find_edge_input.proofs.number.value.Statement.{statement}
 use Rattle.find_edge_input.proofs.number.value.Tie as tie
 

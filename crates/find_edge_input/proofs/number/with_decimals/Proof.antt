@@ -1,8 +1,8 @@
 -- Each return is the definition's branch by the tests so far; the part behind the point is all that is left (`rest`).
 use borrow.Author.Tests.{le-leb, lt-leb, lt-ltb, le-ltb}
 use borrow.Author.Needs.{needs}
-use Rattle.find_edge_input.proofs.Digits.{rest}
 use Rattle.find_edge_input.specs.Number.{afterWhole}
+use Rattle.find_edge_input.proofs.Digits.{rest}
 use Rattle.find_edge_input.proofs.number.with_decimals.Statement.{statement}
 use Rattle.find_edge_input.proofs.number.with_decimals.Tie as tie
 

@@ -3,8 +3,8 @@
 use mathlib.Core.Path.{sym, ap, _∙_}
 use native.Mathlib.Omega.{arith}
 use borrow.Author.Needs.{needs}
-use Rattle.read_inventory.proofs.Decoding.{Headed, Divided, Numbered, entry-in, head-in, quantum-low, reading-small, reading-none, reading-past, reading-is}
 use Rattle.read_inventory.specs.Steps.{quantum}
+use Rattle.read_inventory.proofs.Decoding.{Headed, Divided, Numbered, entry-lent, head-in, quantum-low, reading-small, reading-none, reading-past, reading-is}
 use Rattle.read_inventory.proofs.decode.decode.Statement.{statement}
 use Rattle.read_inventory.proofs.decode.decode.Tie as tie
 
@@ -70,7 +70,7 @@ read-head-requires : tie.Need-read-head-requires
 read-head-requires c κs =
     let at-start = c .before .before .before .before in
     let a = at-start .args in
-    entry-in (a .summary) (a .inventory .now) (a .spill .now) (a .rank) (at-start .pre)
+    entry-lent (a .summary) (a .inventory .now) (a .spill .now) (a .rank) (at-start .pre)
 
 quantum-at-requires : tie.Need-quantum-at-requires
 quantum-at-requires c κs = head-in (headed c)

@@ -5,7 +5,7 @@ use native.Mathlib.Omega.{arith}
 use borrow.Author.Needs.{needs}
 use Rattle.read_inventory.specs.Read.{entryOfRank}
 use Rattle.read_inventory.specs.Steps.{EntryLent}
-use Rattle.read_inventory.proofs.Decoding.{Quartered, entry-in, quarter-in, quarter-fits, quarter-past, quarter-is, decoded-marks}
+use Rattle.read_inventory.proofs.Decoding.{Quartered, entry-lent, quarter-in, quarter-fits, quarter-past, quarter-is, decoded-marks}
 use Rattle.read_inventory.proofs.decode.mark_of.Statement.{statement}
 use Rattle.read_inventory.proofs.decode.mark_of.Tie as tie
 
@@ -18,7 +18,7 @@ module _ (c : tie.After-plan) where
       EntryLent (a .summary) (a .inventory .now) (entryOfRank (a .summary) (a .rank))
   lent =
       let a = at-start .args in
-      entry-in (a .summary) (a .inventory .now) (a .spill .now) (a .rank) (at-start .pre)
+      entry-lent (a .summary) (a .inventory .now) (a .spill .now) (a .rank) (at-start .pre)
 
 module _ (c : tie.After-low-bits) where
   abbrev at-kind-of : tie.After-kind-of
