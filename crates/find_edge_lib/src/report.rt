@@ -148,7 +148,7 @@ pub fn not_checked(fd: i32) {
     );
 }
 
-// Document 01's table, and what to do.
+// Document 01's table, then document 02's, and what to do.
 fn say_meaning(fd: i32, refusal: Refusal) {
     match refusal {
         Refusal::LenTooLarge => say(
@@ -185,6 +185,11 @@ fn say_meaning(fd: i32, refusal: Refusal) {
         Refusal::RanksFall => say(
             fd,
             b"the first edge comes after the second: ask for the edges in rising order",
+        ),
+        Refusal::ListFalls => say(fd, b"the list of edges falls: ask for them in rising order"),
+        Refusal::TooFewPlaces => say(
+            fd,
+            b"there are fewer places than edges asked for: lend more",
         ),
     }
 }

@@ -7,7 +7,7 @@ use Prim.Native.Nat.{ℕ}
 use Rattle.rank_sel.specs.declared.Answer.{Answer}
 use Rattle.rank_sel.specs.declared.Answer.the-variants.{Value, Refused}
 use Rattle.rank_sel.specs.declared.Refusal.{Refusal}
-use Rattle.rank_sel.specs.declared.Refusal.the-variants.{LenTooLarge, TooFewWords, OnesPerInventoryTooLarge, WordsPerSubinventoryTooLarge, OverheadNotPositive, InventoryTooShort, SpillTooShort, RankTooLarge, SummaryUnlawful, CellsUnlawful, RanksFall}
+use Rattle.rank_sel.specs.declared.Refusal.the-variants.{LenTooLarge, TooFewWords, OnesPerInventoryTooLarge, WordsPerSubinventoryTooLarge, OverheadNotPositive, InventoryTooShort, SpillTooShort, RankTooLarge, SummaryUnlawful, CellsUnlawful, RanksFall, ListFalls, TooFewPlaces}
 use Rattle.rank_sel.specs.declared.Tested.{Tested}
 use Rattle.rank_sel.specs.declared.Tested.the-variants as Tested·v
 
@@ -15,7 +15,7 @@ pub data Outcome (A : Type 0) : Type 0 where
   answer : A → Outcome A
   refused : ℕ → Outcome A
 
--- document 01's table, "When a call is turned down"
+-- document 01's table, "When a call is turned down", and document 02's numbers after it
 abbrev pub numberOf : Refusal → ℕ
 numberOf LenTooLarge = 1
 numberOf TooFewWords = 2
@@ -28,6 +28,8 @@ numberOf RankTooLarge = 8
 numberOf SummaryUnlawful = 9
 numberOf CellsUnlawful = 10
 numberOf RanksFall = 11
+numberOf ListFalls = 12
+numberOf TooFewPlaces = 13
 
 abbrev pub answered : Answer → Outcome ℕ
 answered (Value n) = answer n

@@ -5,7 +5,7 @@ ghost use Prim.Native.Nat.{_-_, _^_, _<_, max as maximum, min as minimum};
 ghost use Rattle.rank_sel.specs.Numbers.{ceilDiv, ilog2 as wholeLog2};
 ghost use Rattle.rank_sel.specs.Outcome.{numberOf, reasonOf};
 
-// A case for each row of document 01, "When a call is turned down".
+// A case for each row of document 01, "When a call is turned down", then those of document 02.
 pub enum Refusal {
     LenTooLarge,
     TooFewWords,
@@ -18,10 +18,12 @@ pub enum Refusal {
     SummaryUnlawful,
     CellsUnlawful,
     RanksFall,
+    ListFalls,
+    TooFewPlaces,
 }
 
 // The rows, in their order.
-pub const REFUSAL_COUNT: usize = 11;
+pub const REFUSAL_COUNT: usize = 13;
 
 pub const REFUSALS: [Refusal; REFUSAL_COUNT] = [
     Refusal::LenTooLarge,
@@ -35,6 +37,8 @@ pub const REFUSALS: [Refusal; REFUSAL_COUNT] = [
     Refusal::SummaryUnlawful,
     Refusal::CellsUnlawful,
     Refusal::RanksFall,
+    Refusal::ListFalls,
+    Refusal::TooFewPlaces,
 ];
 
 // A number, or what the call was turned down for.
@@ -76,6 +80,8 @@ pub fn refusal_number(refusal: Refusal) -> u64
         Refusal::SummaryUnlawful => 9,
         Refusal::CellsUnlawful => 10,
         Refusal::RanksFall => 11,
+        Refusal::ListFalls => 12,
+        Refusal::TooFewPlaces => 13,
     }
 }
 
