@@ -5,7 +5,7 @@ ghost use lib.ListN.{length};
 ghost use Rattle.rank_sel.specs.Outcome.{answered, testBy, tested as testedAs};
 ghost use Rattle.rank_sel.specs.Seek.{seek};
 ghost use Rattle.select_in_word.specs.Holds.{Holds};
-ghost use Rattle.bit_record.specs.Record.{Admitted, CountsWords, bitAt, chosen, complemented, countOf, found, ofRecord, selected};
+ghost use Rattle.bit_record.specs.Record.{Admitted, CountsWords, Finds, bitAt, chosen, complemented, countOf, found, ofRecord, selected};
 use rank_sel::Answer;
 use rank_sel::Refusal;
 use rank_sel::Tested;
@@ -15,6 +15,7 @@ use select_in_word::count_ones;
 use select_in_word::low_bits;
 use select_in_word::mask_tail_word;
 use select_in_word::seek_in_word;
+use select_in_word::seek_near;
 use select_in_word::tail_mask;
 
 pub enum Polarity {
@@ -22,9 +23,9 @@ pub enum Polarity {
     Zeros,
 }
 
-// What a seek finds in a record.
+// What a seek finds in a record: a position, and its word.
 pub enum RecordSeek {
-    At(u64),
+    At(u64, u64),
     Nowhere,
 }
 
@@ -64,7 +65,7 @@ pub fn is_selected(words: &[u64], polarity: Polarity, p: u64) -> bool
 }
 
 // The 64 positions from 64 * i on, a one where the position is selected: none at or past `len`.
-fn selected_word(words: &[u64], i: usize, len: u64, polarity: Polarity) -> u64
+pub fn selected_word(words: &[u64], i: usize, len: u64, polarity: Polarity) -> u64
     requires { ⌜ (i < length (now words)) × (64 * i < len) ⌝ }
     ensures { λ r. ⌜ Holds 64 (selected polarity (now (words .entry)) len) (64 * i) r ⌝ }
 {
@@ -107,15 +108,15 @@ pub fn count(words: &[u64], len: u64, polarity: Polarity) -> Answer
 // the record's bits beyond the count goes through here, word by word.
 pub fn seek_from(words: &[u64], len: u64, polarity: Polarity, from: u64, k: u64) -> RecordSeek
     requires { ⌜ Admitted (now words) len ⌝ }
-    ensures { λ r. ⌜ found r ≡ seek (selected polarity (now (words .entry)) len) (len - from) from k ⌝ }
+    ensures { λ r. ⌜ Finds (selected polarity (now (words .entry)) len) (len - from) from k r ⌝ }
 {
     let mut remaining = k;
     let mut at = from;
     while at < len {
         let shift = at % 64;
-        let word = selected_word(words, (at / 64) as usize, len, polarity) >> shift;
-        match seek_in_word(word, remaining) {
-            WordSeek::At(p) => return RecordSeek::At(at + p),
+        let word = selected_word(words, (at / 64) as usize, len, polarity);
+        match seek_in_word(word >> shift, remaining) {
+            WordSeek::At(p) => return RecordSeek::At(at + p, word),
             WordSeek::Past(ones) => {
                 remaining -= ones;
                 at += 64 - shift;
@@ -123,6 +124,25 @@ pub fn seek_from(words: &[u64], len: u64, polarity: Polarity, from: u64, k: u64)
         }
     }
     RecordSeek::Nowhere
+}
+
+// The same from a position whose word is in hand. Neighbours are likely: few are passed.
+pub fn seek_on(
+    words: &[u64],
+    len: u64,
+    polarity: Polarity,
+    from: u64,
+    word: u64,
+    k: u64,
+) -> RecordSeek
+    requires { ⌜ Admitted (now words) len × (from < len) × Holds 64 (selected polarity (now words) len) (64 * (from / 64)) word ⌝ }
+    ensures { λ r. ⌜ Finds (selected polarity (now (words .entry)) len) (len - from) from k r ⌝ }
+{
+    let shift = from % 64;
+    match seek_near(word >> shift, k) {
+        WordSeek::At(p) => RecordSeek::At(from + p, word),
+        WordSeek::Past(ones) => seek_from(words, len, polarity, from + (64 - shift), k - ones),
+    }
 }
 
 // The words that `seek_far` counts at a time.

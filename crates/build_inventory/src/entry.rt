@@ -38,7 +38,7 @@ pub fn or_end(place: RecordSeek, plan: Parameters) -> u64
     ensures { λ r. ⌜ r ≡ orEnd plan (found place) ⌝ }
 {
     match place {
-        RecordSeek::At(p) => p,
+        RecordSeek::At(p, _) => p,
         RecordSeek::Nowhere => max(1, plan.len),
     }
 }

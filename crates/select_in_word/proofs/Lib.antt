@@ -9,3 +9,4 @@ pub mod ByteOnes
 pub mod Sums
 pub mod FirstAbove
 pub mod Broadword
+pub mod Near

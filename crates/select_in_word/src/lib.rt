@@ -6,6 +6,7 @@ ghost use lib.Bits.{bitAnd};
 ghost use lib.Count.{ones};
 ghost use Rattle.rank_sel.specs.Numbers.{sum};
 ghost use Rattle.rank_sel.specs.Rank.{ind};
+ghost use Rattle.rank_sel.specs.Seek.{Sought};
 ghost use Rattle.select_in_word.specs.Bit.{bit};
 ghost use Rattle.select_in_word.specs.Bytes.{byteOf, Bytes, firstAbove};
 ghost use Rattle.select_in_word.specs.Select.{Counts, inWord, said, seekInWord, selectInByte, selectInWord};
@@ -117,6 +118,33 @@ pub fn seek_in_word(word: u64, k: u64) -> WordSeek
     let before = ((sums << 8) >> at) & 255;
     let inner = running_sums(spread((word >> at) & 255));
     WordSeek::At(at + first_above(inner, k - before) / 8)
+}
+
+// The lowest one.
+fn first_one(word: u64) -> u64
+    requires { ⌜ 0 < word ⌝ }
+    ensures { λ r. ⌜ Sought (bit word) 64 0 0 r ⌝ }
+{
+    u64::trailing_zeros(word) as u64
+}
+
+// The same where few ones are likely to be passed: the first two are found without sums.
+pub fn seek_near(word: u64, k: u64) -> WordSeek
+    ensures { λ r. ⌜ said r ≡ seekInWord word k ⌝ }
+{
+    if k < 2 {
+        if word != 0 {
+            let first = first_one(word);
+            if k == 0 {
+                return WordSeek::At(first);
+            }
+            let rest = (word >> first) >> 1;
+            if rest != 0 {
+                return WordSeek::At(first + 1 + first_one(rest));
+            }
+        }
+    }
+    seek_in_word(word, k)
 }
 
 // Keeps the low `residual` bits of a word, or all 64 for 0: then the last word is full.

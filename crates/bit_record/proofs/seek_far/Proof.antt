@@ -75,7 +75,7 @@ returns-2 c =
     let at-start = at-loop .before .before .before .before .before .before in
     let a = at-start .args in
     let l = at-loop .loop in
-    c .seek-from .ensures ∙ seek-same (selected (a .polarity) (a .words .now) (a .len)) (a .len - 64 * l .i) (64 * l .i) (l .remaining)
+    c .seek-from .ensures .position ∙ seek-same (selected (a .polarity) (a .words .now) (a .len)) (a .len - 64 * l .i) (64 * l .i) (l .remaining)
     (a .len - a .from) (a .from) (a .k) (omega arith) (l .inv .1)
 
 add-i : tie.Need-add-i Inv-loop μ-loop
@@ -108,7 +108,7 @@ returns-3 c =
     let at-start = at-loop .before .before .before .before .before .before in
     let a = at-start .args in
     let l = at-loop .loop in
-    c .seek-from2 .ensures ∙ seek-same (selected (a .polarity) (a .words .now) (a .len)) (a .len - 64 * l .i) (64 * l .i) (l .remaining)
+    c .seek-from2 .ensures .position ∙ seek-same (selected (a .polarity) (a .words .now) (a .len)) (a .len - 64 * l .i) (64 * l .i) (l .remaining)
     (a .len - a .from) (a .from) (a .k) (omega arith) (l .inv .1)
 
 pub seek-far-spec : {M : Type 1} → statement M

@@ -73,7 +73,7 @@ returns-3 c =
       number = refl;
       stands = λ m.
           c .or-end .ensures
-          ∙ ap (orEnd (a .plan)) (at-seek .seek-from .ensures)
+          ∙ ap (orEnd (a .plan)) (at-seek .seek-from .ensures .position)
           ∙ mark-next w (a .plan) (r .0) (a .x) (marks at-start) (a .c .k) (a .c .at) (o .result) m (r .2 l) (o .ensures);
     }
 

@@ -39,12 +39,12 @@ returns-2 : tie.Need-returns-2
 returns-2 c =
     let at-p = c .before in
     let at-seek-from = at-p .before .before in
-    ap (orRefuse 10) (sym (ap found (at-p .p .given .1)) ∙ at-seek-from .seek-from .ensures)
+    ap (orRefuse 10) (sym (ap found (at-p .p .given .1)) ∙ at-seek-from .seek-from .ensures .position)
 
 returns-3 : tie.Need-returns-3
 returns-3 c =
     let at-seek-from = c .before .before in
-    ap (orRefuse 10) (sym (ap found (c .enum-told .given .1)) ∙ at-seek-from .seek-from .ensures)
+    ap (orRefuse 10) (sym (ap found (c .enum-told .given .1)) ∙ at-seek-from .seek-from .ensures .position)
 
 pub seek-mark-spec : {M : Type 1} → statement M
 seek-mark-spec =
