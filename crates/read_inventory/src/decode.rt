@@ -67,7 +67,7 @@ pub(crate) enum Decoding {
 }
 
 // The mark of a rank, the selected bits to pass from it on, and whether it is itself the answer.
-pub(crate) enum Marked {
+pub enum Marked {
     At(u64, u64, bool),
     Refused,
 }
@@ -258,7 +258,7 @@ fn quarter_at(inventory: &[u64], first: u64, i: u64) -> u64
 
 // Steps 2 to 6 for a caller that asks for the mark alone. Nearly every entry is U16, and its numbers all stand in its own
 // cells: they are read without the general shape.
-pub(crate) fn mark_of(summary: Summary, inventory: &[u64], spill: &[u64], rank: u64) -> Marked
+pub fn mark_of(summary: Summary, inventory: &[u64], spill: &[u64], rank: u64) -> Marked
     requires { ⌜ Readable summary (now inventory) (now spill) rank ⌝ }
     ensures { λ r. ⌜ marked r ≡ markOfRank summary (now (inventory .entry)) (now (spill .entry)) rank ⌝ }
 {

@@ -22,7 +22,7 @@ fn test_lent(lent: u64, count: u64, refusal: Refusal) -> Tested
 }
 
 // 1, 2, 9, 6, 7: what every reader is held to.
-fn test_index(words: &[u64], summary: Summary, inventory: &[u64], spill: &[u64]) -> Tested
+pub fn test_index(words: &[u64], summary: Summary, inventory: &[u64], spill: &[u64]) -> Tested
     ensures { λ r. ⌜ tested r ≡ testBy (ofIndex (now (words .entry)) summary (now (inventory .entry)) (now (spill .entry))) ⌝ }
 {
     let record = test_record(words, summary.plan.len);

@@ -1,0 +1,5 @@
+pub mod Ranks
+pub mod Reading
+pub mod Written
+pub mod Walk
+pub mod Placed

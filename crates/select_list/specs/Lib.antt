@@ -1,0 +1,3 @@
+pub mod Step
+pub mod List
+pub mod Hand
