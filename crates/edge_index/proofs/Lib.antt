@@ -1,4 +1,5 @@
 pub mod Sound
+pub mod Lists
 pub mod Right
 pub mod Promises
 pub mod Refusals

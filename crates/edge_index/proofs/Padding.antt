@@ -1,6 +1,7 @@
 -- Padding alters nothing: the words come in by what they select, and by whether they suffice.
 use mathlib.Core.Bool.{Bool, _&&_}
-use mathlib.Core.List.{List, _++_}
+use mathlib.Core.List.{List, [], _∷_, _++_}
+use mathlib.Core.Option.{Option}
 use mathlib.Core.Path.{_≡_, refl, sym, ap, _∙_, subst}
 use Prim.Native.Nat.{ℕ, _-_, _^_}
 use lib.Dec.{ltb}
@@ -24,6 +25,8 @@ use Rattle.build_inventory.proofs.Outcomes.{admission}
 use Rattle.read_inventory.specs.Jump.{selectOf, hintOf, dwellAt, dwellOf, storeOf, subinventoryOf}
 use Rattle.read_inventory.specs.Read.{hintAt, positionOf}
 use Rattle.read_inventory.specs.Tests.{ofIndex, ofRank, ofRanks}
+use Rattle.select_list.specs.List.{Walk, start, after, walk, ofList, walkOf, listOf}
+use Rattle.select_list.specs.Step.{Reached, stepOf}
 use Rattle.edge_index.specs.Padding.{Alike}
 use Rattle.edge_index.specs.Promises.{inventoryHolds, spillHolds}
 
@@ -36,6 +39,10 @@ by-spill : (ws sp : List ℕ) (o : Outcome Summary)
     → spillAfter ws sp o ≡ byOutcome (λ t. spillOf (posIn ws (t .plan)) (t .plan) ++ drop (t .«spill_len») sp) (λ n. sp) o
 by-spill ws sp (answer t) = refl
 by-spill ws sp (refused n) = refl
+
+then-alike : {A B : Type 0} (o : Outcome A) (go to : A → Outcome B) → ((a : A) → go a ≡ to a) → andThen o go ≡ andThen o to
+then-alike (answer a) go to h = h a
+then-alike (refused n) go to h = refl
 
 module _ (len : ℕ) (ws vs : List ℕ) (s : SameRecord len ws vs) where
   -- ---- the entries that take a choice
@@ -136,6 +143,19 @@ module _ (len : ℕ) (ws vs : List ℕ) (s : SameRecord len ws vs) where
     unfolding dwellOf dwellAt
     dwell-same a b = tests-same (ofRanks (N (t .plan)) a b) (dwellAt ws t inv sp a b) ∙ rw (position-same a, position-same b)
 
+    step-same : (last : Option Reached) (r : ℕ) → stepOf ws t inv sp last r ≡ stepOf vs t inv sp last r
+    unfolding stepOf
+    step-same last r = rw (selected-same (t .plan .len) ws vs here (t .plan .polarity))
+
+    walk-same : (ranks : List ℕ) (w : Walk) → walk ws t inv sp w ranks ≡ walk vs t inv sp w ranks
+    unfolding walk
+    walk-same [] w = refl
+    walk-same (r ∷ rs) w = rw (step-same (w .last) r) (then-alike (stepOf vs t inv sp (w .last) r) _ _ (λ x. walk-same rs (after w x)))
+
+    list-same : (ranks : List ℕ) (lent : ℕ) → listOf ws t inv sp ranks lent ≡ listOf vs t inv sp ranks lent
+    unfolding listOf walkOf
+    list-same ranks lent = tests-same (ofList (N (t .plan)) ranks lent) (walkOf ws t inv sp ranks) ∙ rw (walk-same ranks start)
+
   pub padding-alike : Alike len ws vs
   unfolding sizeOf fitted
   padding-alike = record {
@@ -150,4 +170,5 @@ module _ (len : ℕ) (ws vs : List ℕ) (s : SameRecord len ws vs) where
     hint = λ t inv sp r e. hint-same t inv sp e r;
     store = λ t inv sp r e. store-same t inv sp e r;
     dwell = λ t inv sp a b e. dwell-same t inv sp e a b;
+    list = λ t inv sp ranks lent e. list-same t inv sp e ranks lent;
   }

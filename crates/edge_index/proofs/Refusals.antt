@@ -2,13 +2,15 @@
 use mathlib.Core.Bool.{Bool, true, false, cond}
 use mathlib.Core.List.{List, [], _∷_, _++_}
 use mathlib.Core.Option.{Option, none, some}
-use mathlib.Core.Path.{_≡_, refl, sym, ap}
+use mathlib.Core.Path.{_≡_, refl, sym, ap, _∙_}
 use Prim.Native.Nat.{ℕ, _+_, _-_, _^_}
 use native.Mathlib.Omega.{arith}
 use lib.Dec.{leb, ltb}
 use lib.ListN.{length, getD}
+use borrow.Author.Tests.{le-ltb}
 use Rattle.rank_sel.specs.Outcome.{Outcome, answer, refused, refuseIf, orRefuse, Conditions, refuseBy, andThen}
 use Rattle.rank_sel.specs.Seek.{seek}
+use Rattle.rank_sel.proofs.Outcome.{tests-more}
 use Rattle.select_in_word.proofs.Bit.{ones-rank}
 use Rattle.select_in_word.proofs.Select.{word-refused, word-missing}
 use Rattle.bit_record.specs.Record.{selected, numSelected, countOf}
@@ -25,7 +27,9 @@ use Rattle.read_inventory.specs.Jump.{selectOf, hintOf, dwellAt, dwellOf, store
 use Rattle.read_inventory.specs.Read.{kindAt, spanAt, shapeAt, Place, start, own, over, placeAt, numberAt, spanTooSmall, markAt, entryOfRank, markNumber, markOfRank, Hint, hintAt, positionOf}
 use Rattle.read_inventory.specs.Tests.{rankTooLarge, ranksFall}
 use Rattle.read_inventory.proofs.PartSize.{store-some, store-in, store-length}
-use Rattle.edge_index.specs.Refusals.{InOrder, recordOrder, choiceOrder, indexOrder, planIn, summaryIn, toSeven, Only10, MakersRefuse, ReadersRefuse, InWordRefuses}
+use Rattle.select_list.specs.List.{Walk, start as begin, after, walk, fallsFrom, anyTooLarge, ofList, listed, walkOf, listOf}
+use Rattle.select_list.specs.Step.{Reached, Start, startOf, readFrom, atMark, stepFrom, stepOf}
+use Rattle.edge_index.specs.Refusals.{firstOf, InOrder, recordOrder, choiceOrder, indexOrder, planIn, summaryIn, toSeven, Only10, MakersRefuse, ReadersRefuse, InWordRefuses}
 
 -- ---- chains of tests
 some-none : {B : Type 0} (n : ℕ) → _≡_ {A = Option ℕ} (some n) none → B
@@ -159,14 +163,48 @@ ten-dwell ws t inv sp a b =
     ten-then (positionOf ws t inv sp a) _ (ten-position ws t inv sp a)
     (λ p. ten-then (positionOf ws t inv sp b) _ (ten-position ws t inv sp b) (λ o. ten-refuse (ltb o p) (answer (o - p)) (ten-answer _)))
 
+-- a list's step, and all of them
+module _ (ws : List ℕ) (t : Summary) (inv sp : List ℕ) where
+  abbrev f : ℕ → Bool
+  f = selected (t .plan .polarity) ws (t .plan .len)
+
+  ten-read : (last : Option Reached) (r : ℕ) (s : Start) → Only10 (readFrom f (t .plan .len) last r s)
+  unfolding readFrom
+  ten-read last r s =
+      let o = seek f (t .plan .len - s .from) (s .from) (s .passes) in
+      ten-then (orRefuse 10 o) _ (ten-or o) (λ p. ten-answer _)
+
+  ten-step : (last : Option Reached) (r : ℕ) → Only10 (stepOf ws t inv sp last r)
+  unfolding stepOf stepFrom
+  ten-step last r =
+      ten-then (markOfRank t inv sp r) _ (ten-rank t inv sp r)
+      (λ m. ten-cond (m .exact) _ _ (ten-answer (atMark last m)) (ten-read last r (startOf last r m)))
+
+  ten-walk : (rs : List ℕ) (w : Walk) → Only10 (walk ws t inv sp w rs)
+  unfolding walk
+  ten-walk [] w = ten-answer w
+  ten-walk (r ∷ rs) w = ten-then (stepOf ws t inv sp (w .last) r) _ (ten-step (w .last) r) (λ x. ten-walk rs (after w x))
+
+  ten-list : (ranks : List ℕ) → Only10 (walkOf ws t inv sp ranks)
+  unfolding walkOf
+  ten-list ranks = ten-then (walk ws t inv sp begin ranks) _ (ten-walk ranks begin) (λ w. ten-answer (listed w))
+
 -- ---- the readers
+none-listed : (ws : List ℕ) (t : Summary) (inv sp : List ℕ) (lent : ℕ) → firstOf (indexOrder ws t inv sp) ≡ none
+    → listOf ws t inv sp [] lent ≡ answer (record { positions = []; total = 0 })
+unfolding listOf walkOf walk fallsFrom anyTooLarge
+none-listed ws t inv sp lent e =
+    tests-more (indexOrder ws t inv sp) (ofList (N (t .plan)) [] lent) (walkOf ws t inv sp [])
+    ∙ in-tests (indexOrder ws t inv sp) _ .else e
+    ∙ rw (le-ltb lent 0 (omega arith))
+
 store-back : (ws : List ℕ) (t : Summary) (inv sp : List ℕ) (r : ℕ) (o : Outcome Hint) → hintOf ws t inv sp r ≡ o
     → cellsOf inv sp (subinventoryOf ws t inv sp r) ≡ [] → (n : ℕ) × (o ≡ refused n)
 store-back ws t inv sp r (answer h) e d = absurd (omega (arith, store-some ws t inv sp r h e, store-length ws t inv sp r, ap length d))
 store-back ws t inv sp r (refused n) e d = (n, refl)
 
 pub readers-refuse : (ws : List ℕ) (t : Summary) (inv sp : List ℕ) → ReadersRefuse ws t inv sp
-unfolding selectOf hintOf dwellOf subinventoryOf storeOf
+unfolding selectOf hintOf dwellOf subinventoryOf storeOf listOf
 readers-refuse ws t inv sp = record {
   select = λ r. in-tests (indexOrder ws t inv sp ++ ((rankTooLarge (N (t .plan)) r, 8) ∷ [])) _;
   select-10 = ten-position ws t inv sp;
@@ -179,6 +217,10 @@ readers-refuse ws t inv sp = record {
   store = λ r. (store-back ws t inv sp r (hintOf ws t inv sp r) refl, λ h. rw (h .1));
   store-some = store-some ws t inv sp;
   store-in = store-in ws t inv sp;
+  list = λ ranks lent. in-tests (indexOrder ws t inv sp ++ ofList (N (t .plan)) ranks lent) _;
+  list-10 = ten-list ws t inv sp;
+  list-untouched = λ ranks places n e. rw e;
+  list-empty = none-listed ws t inv sp;
 }
 
 pub in-word-refuses : InWordRefuses

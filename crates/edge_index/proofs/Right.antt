@@ -1,4 +1,4 @@
--- Demand 2, from demand 3 alone: a sound index passes the tests, and its marks lead to the bits.
+-- Demand 2, from demand 3 alone: a sound index passes the tests, and its marks lead to the bits, singly and in a list.
 use mathlib.Core.Bool.{Bool, true, false, false≢true}
 use mathlib.Core.List.{List, _++_}
 use mathlib.Core.Logic.{⊎-elim}
@@ -6,7 +6,8 @@ use mathlib.Core.Path.{_≡_, refl, sym, ap, ap₂, _∙_, subst}
 use Prim.Native.Nat.{ℕ, _+_, _-_, _/_, _%_, _^_, _≤_, _<_}
 use native.Mathlib.Nat.{mod-one, div-lt-iff-lt-mul}
 use native.Mathlib.Omega.{arith}
-use lib.ListN.{length}
+use lib.ListN.{length, getD, drop, length-append, length-drop, length-map, List·getD-append}
+use lib.Seq.{drop-at}
 use borrow.Author.Tests.{lt-ltb, le-ltb, lt-leb, le-leb}
 use Rattle.rank_sel.specs.Numbers.{sum}
 use Rattle.rank_sel.specs.Outcome.{Outcome, answer, orRefuse, Conditions, refuseBy}
@@ -36,8 +37,11 @@ use Rattle.read_inventory.specs.Read.{cellAt, shapeAt, spilledAt, placeAt, isU6
 use Rattle.read_inventory.specs.Tests.{ofIndex, ofRank, ofRanks}
 use Rattle.read_inventory.proofs.Answers.{hint-mark}
 use Rattle.read_inventory.proofs.Passing.{IndexHeld, index-none}
-use Rattle.edge_index.specs.Right.{Within, Right}
+use Rattle.select_list.specs.List.{falls, anyTooLarge, ofList, Listed, walkOf, listOf, placesAfter}
+use Rattle.select_list.proofs.Ranks.{rising-none, below-none}
+use Rattle.edge_index.specs.Right.{Within, Answerable, ListRight, Right}
 use Rattle.edge_index.specs.Sound.{qOf, marksOf, spilledOf, markRank, Sound}
+use Rattle.edge_index.proofs.Lists.{mapped, Leading, walk-lists}
 
 -- step 7 from the mark of rank m, past j: an exact mark is the bit itself
 finish-mark : (b : Bool) (f : ℕ → Bool) (len m j : ℕ) → m + j < rank f len → (b ≡ true → j ≡ 0)
@@ -109,24 +113,29 @@ module _ (ws : List ℕ) (len : ℕ) (pol : Polarity) (choice : Choice) (t : Sum
   record-same : selected (p .polarity) ws (p .len) ≡ f
   record-same = ap₂ (λ (o : Polarity) (l : ℕ). selected o ws l) (c .polarity) (c .length)
 
-  abbrev exact : ℕ → Bool
-  exact r = isU64 (kindOf pos p (e r))
+  -- the mark of rank r as it is to be read
+  abbrev markFor : ℕ → Mark
+  markFor r = record { at = pos (markOf r); residual = passes r; exact = isU64 (kindOf pos p (e r)) }
 
-  mark-right : (r : ℕ) → r < N p → markOfRank t inv sp r ≡ answer (record { at = pos (markOf r); residual = passes r; exact = exact r })
+  mark-rank : (r : ℕ) → r < N p → markOf r + passes r ≡ r
+  mark-rank r h = omega (arith, s .met r h .passed, s .bits r h .before, s .bits (markOf r) (mark-lt r h) .before)
+
+  mark-right : (r : ℕ) → r < N p → markOfRank t inv sp r ≡ answer (markFor r)
   unfolding residual
   mark-right r h = hint-mark t inv sp r _ (s .met r h .mark) ∙ rw (s .kinds (e r) (entry-of r h), s .quanta (e r) (entry-of r h))
 
   position-right : (r : ℕ) → r < N p → positionOf ws t inv sp r ≡ answer (pos r)
   unfolding positionOf
   position-right r h =
-      let m = s .met r h in
-      let n : markOf r + passes r ≡ r = omega (arith, m .passed, s .bits r h .before, s .bits (markOf r) (mark-lt r h) .before) in
-      let k : Mark = record { at = pos (markOf r); residual = passes r; exact = exact r } in
       rw (mark-right r h)
-      (ap (λ (g : ℕ → Bool). finish g (p .len) k) record-same
-      ∙ ap (λ (l : ℕ). finish f l k) (c .length)
-      ∙ finish-mark (exact r) f len (markOf r) (passes r) (rw n (num r h)) (none-passed r)
-      ∙ ap (λ (i : ℕ). answer (pos i)) n)
+      (ap (λ (g : ℕ → Bool). finish g (p .len) (markFor r)) record-same
+      ∙ ap (λ (l : ℕ). finish f l (markFor r)) (c .length)
+      ∙ finish-mark (markFor r .exact) f len (markOf r) (passes r) (rw (mark-rank r h) (num r h)) (none-passed r)
+      ∙ ap (λ (i : ℕ). answer (pos i)) (mark-rank r h))
+
+  select-right : (r : ℕ) → r < N p → selectOf ws t inv sp r ≡ answer (pos r)
+  unfolding selectOf
+  select-right r h = tests-pass (ofRank (N p) r) (positionOf ws t inv sp r) ∙ rw (lt-leb (N p) r h) (position-right r h)
 
   rise : (a b : ℕ) → a ≤ b → b < N p → pos a ≤ pos b
   rise a b l h = let d : a + (b - a) ≡ b = omega arith in subst (λ (n : ℕ). pos a ≤ pos n) d (select-le f len a (b - a) (rw d (num b h)))
@@ -171,11 +180,52 @@ module _ (ws : List ℕ) (len : ℕ) (pol : Polarity) (choice : Choice) (t : Sum
   store-right r h =
       rw (hint-right r h, s .quanta (e r) (entry-of r h)) (place-in (e r) (sub r / 2 ^ qOf pos p (e r)) (entry-of r h) (mark-number-in r h))
 
+  -- ---- a list
+  leading : Leading ws t inv sp f len
+  leading = record {
+    bits = record-same;
+    length = c .length;
+    below = num;
+    mark = λ r h. (
+      markFor r,
+      mark-right r h,
+      record { start = record { own = markOf r; from = refl; passes = mark-rank r h }; exact = none-passed r },
+    );
+    single = position-right;
+  }
+
+  list-tests : (ranks : List ℕ) (lent : ℕ)
+      → listOf ws t inv sp ranks lent ≡ refuseBy (ofList (N p) ranks lent) (walkOf ws t inv sp ranks)
+  unfolding listOf
+  list-tests ranks lent = tests-pass (ofList (N p) ranks lent) (walkOf ws t inv sp ranks)
+
+  list-right : (ranks places : List ℕ) → Answerable (N p) ranks (length places)
+      → (x : Listed) × (listOf ws t inv sp ranks (length places) ≡ answer x) × ListRight ws len pol t inv sp ranks places x
+  list-right ranks places a =
+      let u : falls ranks ≡ false = rising-none ranks 0 (λ l. omega arith) (a .rising) in
+      let b : anyTooLarge (N p) ranks ≡ false = below-none (N p) ranks (a .below) in
+      let v = walk-lists leading ranks u b in
+      let x : Listed = v .0 in
+      let n : length (x .positions) ≡ length ranks = ap length (v .1 .positions) ∙ length-map ranks pos in
+      let w : (i : ℕ) → i < length ranks → getD (placesAfter (answer x) places) i 0 ≡ pos (getD ranks i 0) =
+      λ i l. List·getD-append (x .positions) _ 0 i (omega (arith, n))
+      ∙ ap (λ (ps : List ℕ). getD ps i 0) (v .1 .positions)
+      ∙ mapped pos ranks i l in (
+        x,
+        list-tests ranks (length places) ∙ rw (u, le-ltb (length places) (length ranks) (a .room), b) (v .1 .found),
+        record {
+          jumps = λ i l. rw (w i l) (select-right (getD ranks i 0) (a .below i l));
+          bits = λ i l. rw (w i l) (s .bits (getD ranks i 0) (a .below i l));
+          past = drop-at (x .positions) _ (length ranks) n ∙ ap (λ (k : ℕ). drop k places) n;
+          many = length-append (x .positions) _ ∙ omega (arith, length-drop (length (x .positions)) places, n, a .room);
+          fewer = v .1 .fewer;
+        },
+      )
+
   pub right : Right ws len pol t inv sp
   unfolding selectOf hintOf dwellOf dwellAt
   right = record {
-    select =
-        λ r h. (pos r, tests-pass (ofRank (N p) r) (positionOf ws t inv sp r) ∙ rw (lt-leb (N p) r h) (position-right r h), s .bits r h);
+    select = λ r h. (pos r, select-right r h, s .bits r h);
     hint = λ r h. (pos (markOf r), hint-right r h, s .bits (markOf r) (mark-lt r h));
     dwell = λ a b l h. (
       pos a,
@@ -194,6 +244,7 @@ module _ (ws : List ℕ) (len : ℕ) (pol : Polarity) (choice : Choice) (t : Sum
       s .bits b h,
     );
     store = store-right;
+    list = list-right;
     selectPast = λ r h. tests-pass (ofRank (N p) r) (positionOf ws t inv sp r) ∙ rw (le-leb (N p) r h);
     hintPast = λ r h. tests-pass (ofRank (N p) r) (hintAt t inv sp r) ∙ rw (le-leb (N p) r h);
     dwellPastA = λ a b h. tests-pass (ofRanks (N p) a b) (dwellAt ws t inv sp a b) ∙ rw (le-leb (N p) a h);
@@ -201,4 +252,7 @@ module _ (ws : List ℕ) (len : ℕ) (pol : Polarity) (choice : Choice) (t : Sum
     dwellFalls =
         λ a b l h. tests-pass (ofRanks (N p) a b) (dwellAt ws t inv sp a b)
         ∙ rw (lt-leb (N p) a h, lt-leb (N p) b (omega arith), lt-ltb b a l);
+    listFalls = λ ranks lent a. list-tests ranks lent ∙ rw a;
+    listFew = λ ranks lent a l. list-tests ranks lent ∙ rw (a, lt-ltb lent (length ranks) l);
+    listPast = λ ranks lent a l b. list-tests ranks lent ∙ rw (a, le-ltb lent (length ranks) l, b);
   }

@@ -16,7 +16,9 @@ use Rattle.build_inventory.specs.Build.{buildFrom, buildOf, checkOf, fitted, sa
 use Rattle.build_inventory.specs.Compare.{sameIndex, sameList}
 use Rattle.read_inventory.specs.Jump.{dwellAt, dwellOf, selectOf}
 use Rattle.read_inventory.specs.Read.{cellAt, kindAt, markAt, markNumber, markOfRank, numberAt, placeAt, positionOf, quantumAt, residual, shapeAt, spanAt, startAt}
-use Rattle.edge_index.specs.Table.{Agree, table}
+use Rattle.select_list.specs.List.{anyTooLarge, fallsFrom, listOf, sumOver, walk, walkOf}
+use Rattle.select_list.specs.Step.{readFrom, singleWords, stepFrom, stepOf, wordsRead}
+use Rattle.edge_index.specs.Table.{Agree, table, lists}
 
 pub table-agrees : Agree table
 unfolding rank seek select bit selectInWord bitAt selected numSelected countOf
@@ -160,3 +162,9 @@ table-agrees = (
     ),
   ),
 )
+
+pub lists-agree : Agree lists
+unfolding rank seek bit bitAt selected entriesOf inventoryLenOf laneOf
+    cellAt markOfRank kindAt markAt markNumber numberAt placeAt positionOf quantumAt residual selectOf shapeAt spanAt startAt unlawful
+    anyTooLarge fallsFrom listOf sumOver walk walkOf readFrom singleWords stepFrom stepOf wordsRead
+lists-agree = (refl, (refl, (refl, (refl, (refl, (refl, (refl, (refl, (refl, (refl, (refl, (refl, tt))))))))))))

@@ -10,6 +10,7 @@ use Rattle.spacing.specs.declared.Choice.{Choice}
 use Rattle.inventory.specs.declared.summary.Summary.{Summary}
 use Rattle.build_inventory.specs.Build.{sizeOf, checkOf}
 use Rattle.read_inventory.specs.Jump.{selectOf, hintOf, dwellOf, subinventoryOf}
+use Rattle.select_list.specs.List.{listOf}
 use Rattle.edge_index.specs.Promises.{buildAnswers, inventoryHolds, spillHolds}
 
 pub record Alike (len : ℕ) (ws vs : List ℕ) : Type 0 where
@@ -25,3 +26,5 @@ pub record Alike (len : ℕ) (ws vs : List ℕ) : Type 0 where
   pub hint : (t : Summary) (inv sp : List ℕ) (r : ℕ) → t .plan .len ≡ len → hintOf ws t inv sp r ≡ hintOf vs t inv sp r
   pub store : (t : Summary) (inv sp : List ℕ) (r : ℕ) → t .plan .len ≡ len → subinventoryOf ws t inv sp r ≡ subinventoryOf vs t inv sp r
   pub dwell : (t : Summary) (inv sp : List ℕ) (a b : ℕ) → t .plan .len ≡ len → dwellOf ws t inv sp a b ≡ dwellOf vs t inv sp a b
+  pub list : (t : Summary) (inv sp ranks : List ℕ) (lent : ℕ) → t .plan .len ≡ len
+      → listOf ws t inv sp ranks lent ≡ listOf vs t inv sp ranks lent

@@ -1,5 +1,5 @@
 -- Demand 1: each refusal is given exactly where its condition holds and none before it in the order does. Document 01,
--- "When a call is turned down". The conditions are those that the definitions name.
+-- "When a call is turned down", and document 02, W-201. The conditions are those that the definitions name.
 use mathlib.Core.Bool.{cond, _&&_}
 use mathlib.Core.List.{List, [], _∷_, _++_}
 use mathlib.Core.Logic.{_↔_}
@@ -25,6 +25,7 @@ use Rattle.build_inventory.specs.Positions.{posIn}
 use Rattle.read_inventory.specs.Jump.{selectOf, hintOf, dwellAt, dwellOf, subinventoryOf, PartIn, cellsOf, cellCount}
 use Rattle.read_inventory.specs.Read.{Hint, hintAt, positionOf}
 use Rattle.read_inventory.specs.Tests.{inventoryTooShort, spillTooShort, rankTooLarge, ranksFall}
+use Rattle.select_list.specs.List.{falls, tooFewPlaces, anyTooLarge, walkOf, listOf, placesAfter}
 
 -- the number of the first that holds
 abbrev pub firstOf : Conditions → Option ℕ
@@ -98,6 +99,16 @@ module _ (ws : List ℕ) (t : Summary) (inv sp : List ℕ) where
     pub store : (r : ℕ) → (cellsOf inv sp (subinventoryOf ws t inv sp r) ≡ []) ↔ ((n : ℕ) × (hintOf ws t inv sp r ≡ refused n))
     pub store-some : (r : ℕ) (h : Hint) → hintOf ws t inv sp r ≡ answer h → 0 < cellCount (subinventoryOf ws t inv sp r)
     pub store-in : (r : ℕ) → PartIn inv sp (subinventoryOf ws t inv sp r)
+    -- 12, 13 and 8 for the whole list, before any rank is read
+    pub list : (ranks : List ℕ) (lent : ℕ) → InOrder (listOf ws t inv sp ranks lent)
+        (indexOrder ws t inv sp ++ ((falls ranks, 12) ∷ (tooFewPlaces lent ranks, 13) ∷ (anyTooLarge (N (t .plan)) ranks, 8) ∷ []))
+        (walkOf ws t inv sp ranks)
+    pub list-10 : (ranks : List ℕ) → Only10 (walkOf ws t inv sp ranks)
+    -- a refused list writes no position; an empty one is answered where nothing turns the index down
+    pub list-untouched : (ranks places : List ℕ) (n : ℕ) → listOf ws t inv sp ranks (length places) ≡ refused n
+        → placesAfter (listOf ws t inv sp ranks (length places)) places ≡ places
+    pub list-empty : (lent : ℕ) → firstOf (indexOrder ws t inv sp) ≡ none
+        → listOf ws t inv sp [] lent ≡ answer (record { positions = []; total = 0 })
 
 -- in-word select: 8 exactly where the rank is not below the word's ones
 abbrev pub InWordRefuses : Type 0

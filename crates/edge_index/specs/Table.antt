@@ -1,4 +1,5 @@
 -- Records to try: what the definitions give, beside what document 01 and the source say. Its starred lines are marked *.
+-- Then lists, beside document 02's W-201.
 use mathlib.Core.Bool.{true, false}
 use mathlib.Core.List.{List, [], _∷_, _++_, map}
 use mathlib.Core.Path.{_≡_}
@@ -20,6 +21,8 @@ use Rattle.inventory.specs.declared.shape.SpanType.the-variants.{U16, U32, U64}
 use Rattle.inventory.specs.declared.summary.Summary.{Summary}
 use Rattle.build_inventory.specs.Build.{checkOf}
 use Rattle.read_inventory.specs.Jump.{selectOf, dwellOf}
+use Rattle.select_list.specs.List.{Listed, listOf, sumOver}
+use Rattle.select_list.specs.Step.{singleWords}
 use Rattle.edge_index.specs.Promises.{buildAnswers, inventoryHolds}
 
 -- a value as defined, and as stated
@@ -134,4 +137,32 @@ table =
     ∷ line (selectOf A (summary (parameters Ones 10 11 1 0 0) 13 0) cellsA [] 0) (refused 9)
     ∷ line (selectOf A onesA (0x8000000000000000 ∷ 0x30000 ∷ 6 ∷ 0x30000 ∷ 10 ∷ []) [] 0) (refused 10)
     ∷ line (dwellOf A onesA cellsA [] 2 1) (refused 11)
+    ∷ []
+
+-- ---- lists
+-- what a list answers: so many words read, and the positions
+abbrev pub gives : ℕ → List ℕ → Outcome Listed
+gives words ps = answer (record { positions = ps; total = words })
+
+-- foreign cells: a record of four bits, two ranks, one entry
+abbrev pub foreign : Summary
+foreign = summary (parameters Ones 4 2 1 0 0) 3 0
+
+abbrev pub lists : List Line
+lists =
+    -- A's ones: one word for all, where single jumps read one each
+    line (listOf A onesA cellsA [] (0 ∷ 1 ∷ 2 ∷ 3 ∷ []) 4) (gives 1 (1 ∷ 4 ∷ 6 ∷ 9 ∷ []))
+    ∷ line (sumOver (singleWords A onesA cellsA []) (0 ∷ 1 ∷ 2 ∷ 3 ∷ [])) 4
+    ∷ line (listOf A onesA cellsA [] (3 ∷ 3 ∷ 3 ∷ []) 3) (gives 1 (9 ∷ 9 ∷ 9 ∷ []))
+    ∷ line (listOf A onesA cellsA [] [] 0) (gives 0 [])
+    -- 12, 13 and 8, and their order
+    ∷ line (listOf A onesA cellsA [] (5 ∷ 4 ∷ []) 0) (refused 12)
+    ∷ line (listOf A onesA cellsA [] (4 ∷ 5 ∷ []) 1) (refused 13)
+    ∷ line (listOf A onesA cellsA [] (4 ∷ 5 ∷ []) 2) (refused 8)
+    ∷ line (listOf A onesA cellsA [] (0 ∷ 2 ∷ 1 ∷ 3 ∷ []) 4) (refused 12)
+    -- on foreign cells the walk may give something else than single jumps
+    ∷ line (listOf (0b0010 ∷ []) foreign (0 ∷ 0 ∷ 1 ∷ []) [] (0 ∷ 1 ∷ []) 2) (refused 10)
+    ∷ line (map (selectOf (0b0010 ∷ []) foreign (0 ∷ 0 ∷ 1 ∷ []) []) (0 ∷ 1 ∷ [])) (answer 1 ∷ answer 1 ∷ [])
+    ∷ line (listOf (0b0111 ∷ []) foreign (0 ∷ 1 ∷ 4 ∷ []) [] (0 ∷ 1 ∷ []) 2) (gives 1 (1 ∷ 2 ∷ []))
+    ∷ line (listOf (0b0001 ∷ []) foreign (0 ∷ 0 ∷ 4 ∷ []) [] (0 ∷ 1 ∷ []) 2) (gives 1 (0 ∷ 0 ∷ []))
     ∷ []

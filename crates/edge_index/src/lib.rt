@@ -1,4 +1,4 @@
-// The public face: every entry of document 01. What is promised of them is in specs/, proved in proofs/.
+// The public face: every entry of documents 01 and 02. What is promised of them is in specs/, proved in proofs/.
 pub use bit_record::Polarity;
 pub use bit_record::count;
 pub use build_inventory::Built;
@@ -22,6 +22,7 @@ pub use read_inventory::subinventory;
 pub use read_inventory::subinventory_part;
 pub use select_in_word::InWord;
 pub use select_in_word::select_in_word;
+pub use select_list::select_list;
 pub use spacing::Choice;
 pub use spacing::MAX_LOG2_WORDS_PER_SUBINVENTORY;
 pub use spacing::Parameters;
