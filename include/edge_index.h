@@ -1,7 +1,7 @@
 /* Decklerose: the edge index, for C. Implemented and proved in crates/edge_index_c; `rt staticlib edge_index_c` writes
  * target/staticlib/libedge_index_c.a, which needs nothing but the C library (of which it calls memset). x86-64 Linux.
  *
- * Every call returns 0, or the number of the refusal that turned it down (1 to 11, below), or EDGE_INDEX_BAD_CODE for a
+ * Every call returns 0, or the number of the refusal that turned it down (1 to 13, below), or EDGE_INDEX_BAD_CODE for a
  * polarity or a kind of choice that is none, which is tested first. On anything but 0 nothing behind a pointer changes.
  *
  * A record is `words_len` words, of which the first `len` bits count: bit p is bit p mod 64, lowest first, of word
@@ -23,6 +23,8 @@
  *    9  summary: N > len, L > 63, M > 53, S or inventory count not by the rules
  *   10  cells that no index has at this rank
  *   11  dwell with a > b
+ *   12  a list in which a rank is below the one before it
+ *   13  a list with fewer places than ranks
  */
 #ifndef EDGE_INDEX_H
 #define EDGE_INDEX_H
@@ -116,6 +118,16 @@ uint32_t edge_index_subinventory(const uint64_t *words, size_t words_len, const 
 uint32_t edge_index_dwell(const uint64_t *words, size_t words_len, const edge_index_summary *summary,
                           const uint64_t *inventory, size_t inventory_len, const uint64_t *spill, size_t spill_len,
                           uint64_t a, uint64_t b, uint64_t *samples);
+
+/* List: the positions of ranks that never fall, written to the first `ranks_len` places; places past these stay as they are,
+ * and so do all on a refusal. Each reading goes on from the last position, or from the rank's mark where that lies later;
+ * words_read: how many words of the record were read, at most as many as by single jumps. On an index built or checked the
+ * positions are those of single jumps; on other cells they are where this walk leads. No ranks: 0 words.
+ * Refusals, in this order: 1, 2, 9, 6, 7, 12, 13, 8 (any rank), 10. */
+uint32_t edge_index_select_list(const uint64_t *words, size_t words_len, const edge_index_summary *summary,
+                                const uint64_t *inventory, size_t inventory_len, const uint64_t *spill, size_t spill_len,
+                                const uint64_t *ranks, size_t ranks_len, uint64_t *places, size_t places_len,
+                                uint64_t *words_read);
 
 /* In-word select: the position of the one of this rank in one word.
  * Refusal 8. */

@@ -41,7 +41,9 @@ int main(void) {
     }
 
     edge_index_summary summary;
-    uint64_t yes = 0, first = 0, third = 0, period = 0;
+    uint64_t yes = 0, first = 0, third = 0, period = 0, words_read = 0;
+    const uint64_t ranks[] = {1000, 1001, 1002};
+    uint64_t places[3] = {0};
     const char *call = "build";
     number = edge_index_build(words, WORDS, SAMPLES, EDGE_INDEX_ONES, EDGE_INDEX_DEFAULT, 0, 0.0, 0, inventory,
                               inventory_len, spill, spill_len, &summary);
@@ -63,9 +65,16 @@ int main(void) {
                                   &period);
     }
     if (number == 0) {
+        call = "select_list";
+        number = edge_index_select_list(words, WORDS, &summary, inventory, inventory_len, spill, spill_len, ranks, 3,
+                                        places, 3, &words_read);
+    }
+    if (number == 0) {
         printf("edges: %" PRIu64 ", checked: %s\n", summary.num, yes ? "yes" : "no");
         printf("edge 1000 at %" PRIu64 ", edge 1002 at %" PRIu64 "\n", first, third);
         printf("period: %" PRIu64 " samples\n", period);
+        printf("edges 1000 to 1002 at %" PRIu64 ", %" PRIu64 ", %" PRIu64 ": %" PRIu64 " words read\n", places[0],
+               places[1], places[2], words_read);
 
         /* There is no edge of this rank: the call says so by number, and `first` keeps its value. */
         uint32_t no = edge_index_select(words, WORDS, &summary, inventory, inventory_len, spill, spill_len,

@@ -14,6 +14,7 @@ use Rattle.inventory.specs.declared.summary.Summary.{Summary}
 use Rattle.build_inventory.specs.Build.{Sizes, sizeOf, buildOf, checkOf, inventoryAfter, spillAfter}
 use Rattle.read_inventory.specs.Read.{Hint}
 use Rattle.read_inventory.specs.Jump.{Part, ofInventory, ofSpill, empty, selectOf, hintOf, dwellOf, storeOf}
+use Rattle.select_list.specs.List.{Listed, listOf, totalOf, placesAfter}
 use Rattle.edge_index_c.specs.Codes.{badCode, known, polarityAt, choiceAt, summaryAt, numbersOf, uncounted}
 
 -- ---- what a call whose outcome is o leaves
@@ -89,6 +90,15 @@ hintAs mark rank = record { mark = mark; rank = rank }
 
 unfoldable pub dwellC : List ℕ → List ℕ → List ℕ → List ℕ → ℕ → ℕ → Outcome ℕ
 dwellC ws s inv sp a b = ifRead s (dwellOf ws (summaryAt s) inv sp a b)
+
+-- a list, where so many places are lent
+unfoldable pub listC : List ℕ → List ℕ → List ℕ → List ℕ → List ℕ → ℕ → Outcome Listed
+listC ws s inv sp ranks lent = ifRead s (listOf ws (summaryAt s) inv sp ranks lent)
+
+-- a list whose outcome is o returned r and left these places and total
+pub record ListedC (o : Outcome Listed) (l₀ l : List ℕ) (r out₀ out : ℕ) : Type 0 where
+  pub returned : Returned (totalOf o) r out₀ out
+  pub places : l ≡ placesAfter o l₀
 
 -- a part as numbers: its slice, 1 the inventory, 2 the spill; its first cell; how many
 pub record Cells : Type 0 where

@@ -5,7 +5,7 @@ ghost use lib.ListN.{length};
 ghost use Rattle.rank_sel.specs.Outcome.{answered, numberOf};
 ghost use Rattle.select_in_word.specs.Select.{selectInWord};
 ghost use Rattle.build_inventory.specs.Build.{checked};
-ghost use Rattle.edge_index_c.specs.Calls.{BuiltC, Returned, buildC, cellsAs, checkC, countC, dwellC, hintAs, hintC, planC, selectC, sizeC, sizesAs, subinventoryC, verdictOf};
+ghost use Rattle.edge_index_c.specs.Calls.{BuiltC, ListedC, Returned, buildC, cellsAs, checkC, countC, dwellC, hintAs, hintC, listC, planC, selectC, sizeC, sizesAs, subinventoryC, verdictOf};
 ghost use Rattle.edge_index_c.specs.Codes.{choiceAt, cut as cutTo32, known, numbersOf, polarityAt, polarityCode, summaryAt};
 use edge_index::Answer;
 use edge_index::Built;
@@ -380,6 +380,25 @@ pub extern "C" fn edge_index_dwell(
         edge_index::dwell(words, summary_at(summary), inventory, spill, a, b),
         samples,
     )
+}
+
+#[no_mangle]
+pub extern "C" fn edge_index_select_list(
+    words: &[u64],
+    summary: &[u64; 8],
+    inventory: &[u64],
+    spill: &[u64],
+    ranks: &[u64],
+    places: &mut [u64],
+    words_read: &mut u64,
+) -> u32
+    ensures { λ r. ⌜ ListedC (listC (now (words .entry)) (now (summary .entry)) (now (inventory .entry)) (now (spill .entry)) (now (ranks .entry)) (length (now (places .entry)))) (now (places .entry)) (now (places .exit)) r (now («words_read» .entry)) (now («words_read» .exit)) ⌝ }
+{
+    if summary[0] > 1 {
+        return BAD_CODE;
+    }
+    let told = edge_index::select_list(words, summary_at(summary), inventory, spill, ranks, places);
+    give(told, words_read)
 }
 
 #[no_mangle]
