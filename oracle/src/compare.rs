@@ -1,7 +1,9 @@
-//! The library against the unchanged Rust, and both against the model: parameters, inventory, spill, every select.
+//! The library against the unchanged Rust, and both against the model: parameters, inventory, spill, every select; lists
+//! against the model and against single jumps.
 
 use crate::cases::*;
 use crate::ffi;
+use crate::list::List;
 use crate::model::{self, BAD_CODE, Choice, FIXED, ONES, POWER, Summary, ZEROS};
 use crate::random::Random;
 use crate::reference::{self, Reference};
@@ -76,6 +78,8 @@ pub struct Tally {
     cells: u64,
     selects: u64,
     refusals: u64,
+    /// How often a list was answered, as 0, and how often each refusal was said.
+    lists: BTreeMap<u32, u64>,
     /// Entries met, by kind, with or without spill, at M 0 or above.
     entries: BTreeMap<String, u64>,
     known: Seen,
@@ -183,6 +187,7 @@ impl Tally {
         self.cells += (cells.len() + spilled.len()) as u64;
         let index = ffi::Index { words, summary: &summary, inventory: &inventory, spill: &spill };
         self.reads(case, &index);
+        self.lists(case, &index);
 
         // The Rust.
         let theirs = match catch_unwind(AssertUnwindSafe(|| reference::build(words, len, polarity, &choice))) {
@@ -213,6 +218,31 @@ impl Tally {
             self.equal(case, "hint", ours.hint(rank), model.hint(rank));
             self.equal(case, "store", ours.store(rank), model.store(rank));
             self.equal(case, "dwell", ours.dwell(summary.n / 3, rank), model.dwell(summary.n / 3, rank));
+        }
+    }
+
+    /// Lists, which the Rust has not: the single jumps' positions, for no more words than those read.
+    fn lists(&mut self, case: &Case, ours: &ffi::Index) {
+        let &ffi::Index { words, summary, inventory, spill } = ours;
+        let model = model::Index { words, summary, inventory, spill };
+        let random = Random::new(self.cases);
+        // The smallest records are many.
+        let lists = if words.len() <= 2 { 1 } else { 4 };
+        for _ in 0..lists {
+            let list = List::random(&random, summary.n);
+            let (found, expected) = (list.ours(ours), list.expected(&model));
+            *self.lists.entry(expected.as_ref().err().copied().unwrap_or(0)).or_default() += 1;
+            if found != expected {
+                self.difference(case, format!("{list:?}: ours {found:?}, expected {expected:?}"));
+            } else if let Ok((places, total)) = found {
+                let singles: Vec<_> = list.ranks.iter().map(|&rank| jump(ours, rank)).collect();
+                let same = singles.iter().zip(&places).all(|(single, place)| single.0 == *place);
+                let most: u64 = singles.iter().map(|single| single.1).sum();
+                if !same || total > most {
+                    let what = format!("{list:?}: {places:?} for {total} words, single jumps {singles:?}");
+                    self.difference(case, what);
+                }
+            }
         }
     }
 
@@ -250,7 +280,9 @@ impl Tally {
 
     pub fn print(&self) {
         let Tally { cases, cells, selects, refusals, .. } = self;
-        println!("compared: {cases} cases, {cells} cells, {selects} selects, {refusals} refusals");
+        let lists: u64 = self.lists.values().sum();
+        println!("compared: {cases} cases, {cells} cells, {selects} selects, {refusals} refusals, {lists} lists");
+        println!("how the lists came out: {}", said(&self.lists));
         println!("entries met:");
         for (kind, times) in &self.entries {
             println!("  {kind}: {times}");
@@ -259,6 +291,21 @@ impl Tally {
         self.skipped.print("skipped (ours and the model compared as far as said):");
         println!("differences: {}", self.differences);
     }
+}
+
+/// How often a call answered, and how often each refusal was said.
+pub fn said(outcomes: &BTreeMap<u32, u64>) -> String {
+    let said = |(k, n): (&u32, &u64)| if *k == 0 { format!("answered {n}") } else { format!("{k}: {n}") };
+    outcomes.iter().map(said).collect::<Vec<_>>().join(", ")
+}
+
+/// Where a single jump on a built index leads and the words it reads: mark's word to answer's word, both counted; a U64
+/// rank reads none.
+fn jump(index: &ffi::Index, rank: u64) -> (u64, u64) {
+    let (Ok(position), Ok((mark, _))) = (index.select(rank), index.hint(rank)) else { return (u64::MAX, 0) };
+    let entry = (rank >> index.summary.l) * ((1 << index.summary.m) + 1);
+    let exact = index.inventory[entry as usize] >> 62 == 3;
+    (position, if exact { 0 } else { position / 64 - mark / 64 + 1 })
 }
 
 fn as_u64(cells: &[usize]) -> &[u64] {

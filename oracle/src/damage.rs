@@ -1,10 +1,11 @@
-//! Jump, hint, store, dwell and check on damaged summaries and cells, against the model; and count, plan, size and
+//! Jump, hint, store, dwell, list and check on damaged summaries and cells, against the model; and count, plan, size and
 //! build on damaged records, choices and buffers.
 
 use crate::cases::*;
-use crate::compare::Case;
+use crate::compare::{Case, said};
 use crate::ffi;
-use crate::model::{self, Answer, Choice, ONES, Summary};
+use crate::list::List;
+use crate::model::{self, Answer, Built, Choice, ONES, Summary};
 use crate::random::Random;
 use std::collections::BTreeMap;
 use std::fmt::Debug;
@@ -25,6 +26,9 @@ struct Input {
     spill: Vec<u64>,
 }
 
+/// After this many differences no more are printed.
+const MOST_PRINTED: u64 = 20;
+
 #[derive(Default)]
 struct Tally {
     calls: u64,
@@ -34,13 +38,21 @@ struct Tally {
 }
 
 impl Tally {
-    fn equal<T: PartialEq + Debug>(&mut self, call: &'static str, input: &Input, ours: Answer<T>, model: Answer<T>) {
+    /// Whether they are.
+    fn equal<T: PartialEq + Debug>(
+        &mut self,
+        call: &'static str,
+        input: &Input,
+        ours: Answer<T>,
+        model: Answer<T>,
+    ) -> bool {
         self.calls += 1;
         let outcome = model.as_ref().err().copied().unwrap_or(0);
         *self.outcomes.entry(call).or_default().entry(outcome).or_default() += 1;
-        if ours != model {
+        let same = ours == model;
+        if !same {
             self.differences += 1;
-            if self.differences <= 20 {
+            if self.differences <= MOST_PRINTED {
                 let Input { words, len, polarity, choice, summary, inventory, spill } = input;
                 let case = Case { words, len: *len, polarity: *polarity, choice: *choice };
                 let first =
@@ -51,6 +63,7 @@ impl Tally {
                 println!("  spill of {}: {}", spill.len(), first(spill));
             }
         }
+        same
     }
 }
 
@@ -62,8 +75,11 @@ pub fn run(calls: u64) -> u64 {
     let mut tally = Tally::default();
     let mut input = bases[0].clone();
     let mut rounds = 0u64;
-    let mut others = 0;
-    while tally.calls - others < calls {
+    // Lists draw from a stream of their own, so that the other calls are the same with them and without.
+    let list_random = Random::new(6);
+    foreign_lists(&mut tally, &list_random);
+    let (mut lists, mut others) = (tally.calls, 0);
+    while tally.calls - others - lists < calls {
         let base = &bases[random.below(bases.len() as u64) as usize];
         input.clone_from(base);
         if random.one_in(6) {
@@ -80,14 +96,16 @@ pub fn run(calls: u64) -> u64 {
             build_calls(&mut tally, &random, &input);
             others += tally.calls - before;
         }
+        let before = tally.calls;
+        damaged_lists(&mut tally, &list_random, &mut input);
+        lists += tally.calls - before;
         rounds += 1;
     }
-    let (good, reads, seconds) = (bases.len(), tally.calls - others, started.elapsed().as_secs_f64());
+    let (good, reads, seconds) = (bases.len(), tally.calls - others - lists, started.elapsed().as_secs_f64());
     println!("damage: {good} indexes, {rounds} damaged copies, {reads} calls of jump, hint, store, dwell and check,");
-    println!("  {others} of count, plan, size and build, {seconds:.1} s; how each call came out:");
+    println!("  {others} of count, plan, size and build, {lists} lists, {seconds:.1} s; how each call came out:");
     for (call, outcomes) in &tally.outcomes {
-        let said = |(k, n): (&u32, &u64)| if *k == 0 { format!("answered {n}") } else { format!("{k}: {n}") };
-        println!("  {call}: {}", outcomes.iter().map(said).collect::<Vec<_>>().join(", "));
+        println!("  {call}: {}", said(outcomes));
     }
     println!("differences: {}", tally.differences);
     tally.differences
@@ -369,5 +387,87 @@ fn build_calls(tally: &mut Tally, random: &Random, input: &Input) {
     if refused {
         let kept = inv == *inventory && spl == *spill;
         tally.equal("build, cells kept on a refusal", input, Ok(kept), Ok(true));
+    }
+}
+
+/// Lists over foreign cells of small records, where the walk often goes another way than single jumps.
+fn foreign_lists(tally: &mut Tally, random: &Random) {
+    let mut input = Input {
+        words: Vec::new(),
+        len: 4,
+        polarity: ONES,
+        choice: default(),
+        summary: Summary { polarity: 0, len: 4, n: 2, l: 1, m: 0, s: 0, inventory: 3, spill: 0 },
+        inventory: Vec::new(),
+        spill: Vec::new(),
+    };
+    // Worked by hand from document 02; single jumps give 1 and 1, 1 and 0, 0 and 0.
+    for (word, cells, expected) in
+        [(0b0010, [0, 0, 1], Err(10)), (0b111, [0, 1, 4], Ok((vec![1, 2], 1))), (1, [0, 0, 4], Ok((vec![0, 0], 1)))]
+    {
+        (input.words, input.inventory) = (vec![word], cells.to_vec());
+        let Input { words, summary, inventory, spill, .. } = &input;
+        assert_eq!(model::Index { words, summary, inventory, spill }.list(&[0, 1], 2), expected, "the model");
+        list_call(tally, &input, &List { ranks: vec![0, 1], places: 2 });
+    }
+    for _ in 0..60_000 {
+        input.len = 1 + random.below(random.pick(&[20, 300, 3000]));
+        input.words = random_words(random, input.len.div_ceil(64) as usize);
+        if random.one_in(2) {
+            foreign(random, &mut input);
+        } else {
+            stale(random, &mut input);
+        }
+        list_call(tally, &input, &List::random(random, input.summary.n));
+    }
+}
+
+/// The index from when the record had half its bits, as it is or with entries bent: its marks lie in the record, and
+/// bits are left where a walk goes too far, so that long lists are answered too.
+fn stale(random: &Random, input: &mut Input) {
+    let (l, m) = (random.pick(&[0, 0, 0, 1, 2, 3, 4, 5, 6]), random.below(4) as u32);
+    let (polarity, choice) = (random.below(2) as u32, power(l, m));
+    let fewer = |word: &u64| if polarity == ONES { word & random.next() } else { word | random.next() };
+    let words: Vec<u64> = input.words.iter().map(fewer).collect();
+    let built = model::built(&words, input.len, polarity, &choice, usize::MAX, usize::MAX);
+    Built { summary: input.summary, inventory: input.inventory, spill: input.spill } = built.expect("a lawful choice");
+    (0..random.below(4)).for_each(|_| bend_entries(random, input));
+}
+
+/// Two entries swapped, and one of them perhaps tagged U64, which for L 0 still leads to its start.
+fn bend_entries(random: &Random, input: &mut Input) {
+    let step = (1usize << input.summary.m.min(10)) + 1;
+    let entries = (input.inventory.len() / step) as u64;
+    if entries > 0 {
+        let (i, j) = (random.below(entries) as usize * step, random.below(entries) as usize * step);
+        (0..step).for_each(|k| input.inventory.swap(i + k, j + k));
+        if random.one_in(2) {
+            input.inventory[i] |= TAG;
+        }
+    }
+}
+
+/// Lists over the damaged copy; now and then two of its entries are bent as well.
+fn damaged_lists(tally: &mut Tally, random: &Random, input: &mut Input) {
+    if random.one_in(3) {
+        bend_entries(random, input);
+    }
+    for _ in 0..2 {
+        list_call(tally, input, &List::random(random, input.summary.n));
+    }
+}
+
+fn list_call(tally: &mut Tally, input: &Input, list: &List) {
+    let Input { words, summary, inventory, spill, .. } = input;
+    let model = model::Index { words, summary, inventory, spill };
+    let expected = list.expected(&model);
+    // Where a loop of single jumps would be wrong.
+    let positions = expected.as_ref().map(|(places, _)| &places[..list.ranks.len()]);
+    let singles: Answer<Vec<u64>> = list.ranks.iter().map(|&rank| model.select(rank)).collect();
+    let walked = matches!(expected, Ok(_) | Err(10)) && positions != singles.as_deref();
+    let call = if walked { "list, unlike single jumps" } else { "list" };
+    let same = tally.equal(call, input, list.ours(&ffi::Index { words, summary, inventory, spill }), expected);
+    if !same && tally.differences <= MOST_PRINTED {
+        println!("  {list:?}");
     }
 }

@@ -51,6 +51,11 @@ mod c {
             inventory: *const u64, inventory_len: usize, spill: *const u64, spill_len: usize,
             a: u64, b: u64, samples: *mut u64,
         ) -> u32;
+        pub fn edge_index_select_list(
+            words: *const u64, words_len: usize, summary: *const Summary,
+            inventory: *const u64, inventory_len: usize, spill: *const u64, spill_len: usize,
+            ranks: *const u64, ranks_len: usize, places: *mut u64, places_len: usize, words_read: *mut u64,
+        ) -> u32;
         pub fn edge_index_select_in_word(word: u64, rank: u64, position: *mut u64) -> u32;
     }
 }
@@ -132,7 +137,7 @@ impl Record<'_> {
     }
 }
 
-/// What jump, hint, store and dwell take.
+/// What jump, hint, store, dwell and list take.
 #[derive(Clone, Copy)]
 pub struct Index<'a> {
     pub words: &'a [u64],
@@ -191,6 +196,20 @@ impl Index<'_> {
             )
         };
         answer(code, [samples]).map(|[samples]| samples)
+    }
+
+    /// List: the words read; the positions are in the places.
+    #[inline]
+    pub fn list(&self, ranks: &[u64], places: &mut [u64]) -> Result<u64, u32> {
+        let mut words_read = SENTINEL;
+        let code = unsafe {
+            c::edge_index_select_list(
+                self.words.as_ptr(), self.words.len(), self.summary,
+                self.inventory.as_ptr(), self.inventory.len(), self.spill.as_ptr(), self.spill.len(),
+                ranks.as_ptr(), ranks.len(), places.as_mut_ptr(), places.len(), &mut words_read,
+            )
+        };
+        answer(code, [words_read]).map(|[words_read]| words_read)
     }
 }
 

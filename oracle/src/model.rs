@@ -1,5 +1,6 @@
 //! Document 01 as a program: plain whole numbers (u128, i128), no care for speed, each step under the sentence it
-//! follows. Written from the document alone, not from the Rust and not from the library that it judges.
+//! follows. Written from the document alone, not from the Rust and not from the library that it judges. The list is
+//! document 02's W-201.
 
 /// A call's answer, or the number of its refusal in document 01's table.
 pub type Answer<T> = Result<T, u32>;
@@ -399,7 +400,7 @@ pub fn same(built: &Built, summary: &Summary, inventory: &[u64], spill: &[u64]) 
         && spill[..built.spill.len()] == built.spill[..]
 }
 
-// ------------------------------------------------------------------------- jump, hint, store and dwell
+// ------------------------------------------------------------------- jump, hint, store, dwell and list
 
 /// What they take: "words, summary and cells; the summary's `len` and counts are the ones tested".
 #[derive(Clone, Copy)]
@@ -535,8 +536,12 @@ impl Index<'_> {
         if mark.kind == Kind::U64 {
             return Ok(mark.mark);
         }
-        let polarity = self.summary.polarity as u32;
-        seek(self.words, self.summary.len as u128, polarity, mark.mark, mark.between).ok_or(10)
+        self.seek(mark.mark, mark.between)
+    }
+
+    /// Step 7, from the mark or from wherever a list's reading starts.
+    fn seek(&self, start: u128, between: u128) -> Answer<u128> {
+        seek(self.words, self.summary.len as u128, self.summary.polarity as u32, start, between).ok_or(10)
     }
 
     /// Jump.
@@ -569,5 +574,44 @@ impl Index<'_> {
         let from = self.position(a)? as i128;
         let to = self.position(b)? as i128;
         u64::try_from(to - from).map_err(|_| 10)
+    }
+
+    /// List, with so many places for its answers: the positions and the total of words read.
+    pub fn list(&self, ranks: &[u64], places: usize) -> Answer<(Vec<u64>, u64)> {
+        // "12, ranks that fall; 13, too few places for answers; in that order, after 7 and before 8"
+        self.refusal(&[])?;
+        if ranks.windows(2).any(|two| two[1] < two[0]) {
+            return Err(12);
+        }
+        if places < ranks.len() {
+            return Err(13);
+        }
+        self.refusal(ranks)?;
+
+        let mut found = Vec::new();
+        let mut total = 0;
+        // "the last bit reached by reading", and the list's rank that reached it
+        let mut last: Option<(u128, u64)> = None;
+        for &rank in ranks {
+            let mark = self.mark(rank)?;
+            // "a U64 rank reads none"
+            if mark.kind == Kind::U64 {
+                found.push(mark.mark as u64);
+                continue;
+            }
+            // "the reading starts at the later of its mark and the last bit"; "From the mark it passes s mod 2^q selected
+            // bits, from a later last bit as many as its rank exceeds that bit's."
+            let (start, between) = match last {
+                Some((bit, its_rank)) if bit > mark.mark => (bit, (rank - its_rank) as u128),
+                _ => (mark.mark, mark.between),
+            };
+            let bit = self.seek(start, between)?;
+            // "and runs to the answer; a word still in hand is not read again"
+            let in_hand = last.is_some_and(|(bit, _)| bit / 64 == start / 64);
+            total += bit / 64 - start / 64 + 1 - in_hand as u128;
+            last = Some((bit, rank));
+            found.push(bit as u64);
+        }
+        Ok((found, total as u64))
     }
 }

@@ -1,4 +1,5 @@
-// Runs document 01's "Records to try" and its examples of refusals through the library; what it writes is held to stdout.
+// Runs document 01's "Records to try", its examples of refusals and document 02's lists through the library; what it writes
+// is held to stdout.
 ghost use mathlib.Core.Path.{_≡_};
 ghost use lib.ListN.{length};
 use edge_index::Answer;
@@ -22,6 +23,7 @@ use edge_index::plan;
 use edge_index::refusal_number;
 use edge_index::select;
 use edge_index::select_in_word;
+use edge_index::select_list;
 use edge_index::size;
 use edge_index::subinventory;
 use libc::STDOUT_FILENO;
@@ -767,6 +769,56 @@ fn checks_of_c() {
     check_c(summary_c(), &cells, &none);
 }
 
+// A list of jumps: the words read, and what the places hold afterwards.
+fn show_list(
+    name: &[u8],
+    words: &[u64],
+    summary: Summary,
+    inventory: &[u64],
+    ranks: &[u64],
+    places: &mut [u64],
+) {
+    let none = [0u64; 0];
+    say(b"list ");
+    say(name);
+    say(b": ");
+    show(select_list(words, summary, inventory, &none, ranks, places));
+    say(b"  places");
+    end_cells(places);
+}
+
+// Record A, ones, power 1, 0.
+fn list_a(name: &[u8], ranks: &[u64], places: &mut [u64]) {
+    let a = [0x252u64];
+    let cells = [1u64, 0x30000, 6, 0x30000, 10];
+    let ones = summary_of(Polarity::Ones, 10, 4, 1, 0, 5, 0);
+    show_list(name, &a, ones, &cells, ranks, places);
+}
+
+fn lists_of_a() {
+    list_a(b"A, ranks 0 1 2 3", &[0u64, 1, 2, 3], &mut [77u64; 5]);
+    list_a(b"A, ranks 3 3 3", &[3u64, 3, 3], &mut [77u64; 3]);
+    list_a(b"A, no ranks", &[0u64; 0], &mut [77u64; 1]);
+    list_a(b"A, ranks 5 4, no place", &[5u64, 4], &mut [77u64; 0]);
+    list_a(b"A, ranks 4 5, one place", &[4u64, 5], &mut [77u64; 1]);
+    list_a(b"A, ranks 4 5", &[4u64, 5], &mut [77u64; 2]);
+    list_a(b"A, ranks 0 2 1 3", &[0u64, 2, 1, 3], &mut [77u64; 4]);
+}
+
+// One entry of two ranks over four bits, with cells that no build writes.
+fn list_foreign(name: &[u8], word: u64, cells: &[u64]) {
+    let words = [word];
+    let two = summary_of(Polarity::Ones, 4, 2, 1, 0, 3, 0);
+    show_list(name, &words, two, cells, &[0u64, 1], &mut [77u64; 2]);
+}
+
+// Here jumps one by one would answer otherwise, or by other rules.
+fn lists_on_foreign_cells() {
+    list_foreign(b"word 2, cells 0 0 1, ranks 0 1", 0b0010, &[0u64, 0, 1]);
+    list_foreign(b"word 7, cells 0 1 4, ranks 0 1", 0b0111, &[0u64, 1, 4]);
+    list_foreign(b"word 1, cells 0 0 4, ranks 0 1", 0b0001, &[0u64, 0, 4]);
+}
+
 fn main() {
     counts();
     in_words();
@@ -784,4 +836,6 @@ fn main() {
     summary_checks_of_a();
     cell_checks_of_a();
     checks_of_c();
+    lists_of_a();
+    lists_on_foreign_cells();
 }

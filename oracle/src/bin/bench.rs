@@ -12,9 +12,27 @@ use sux::rank_sel::{SelectAdapt, SelectZeroAdapt};
 use sux::traits::BitVecOps;
 use sux::traits::rank_sel::{AddNumBits, Select, SelectZero};
 
-const USAGE: &str = "bench [--small] [--huge] [--runs N] | bench --ours build|check|random|rising LOG2 HALVINGS";
-const COLUMNS: [&str; 5] = ["count", "build", "check / build", "select, random", "select, rising"];
+const USAGE: &str =
+    "bench [--small] [--huge] [--list] [--runs N] | bench --ours build|check|random|rising|list LOG2 HALVINGS";
 const QUERIES: u64 = 1 << 20;
+/// Ranks in the lists of one run.
+const LISTED: u64 = 40 * 4096;
+
+/// A column's name, and how many ranks a run of it answers: none where the call is timed as a whole.
+type Column = (&'static str, Option<u64>);
+const CALLS: [Column; 5] = [
+    ("count", None),
+    ("build", None),
+    ("check / build", None),
+    ("select, random", Some(QUERIES)),
+    ("select, rising", Some(QUERIES)),
+];
+const LISTS: [Column; 4] = [
+    ("list of 40, neighbours", Some(LISTED)),
+    ("list of 40, spread", Some(LISTED)),
+    ("list of 4,096, neighbours", Some(LISTED)),
+    ("list of 4,096, spread", Some(LISTED)),
+];
 
 fn main() -> ExitCode {
     if cfg!(debug_assertions) || cfg!(target_feature = "bmi2") {
@@ -28,12 +46,13 @@ fn main() -> ExitCode {
     {
         return ours(call, log2, halvings);
     }
-    let (mut sizes, mut huge, mut runs) = (vec![20, 26, 30], false, 6);
+    let (mut sizes, mut huge, mut calls, mut runs) = (vec![20, 26, 30], false, true, 6);
     let mut args = args.into_iter();
     while let Some(arg) = args.next() {
         match (arg.as_str(), &mut args) {
             ("--small", _) => sizes = vec![20, 26],
             ("--huge", _) => huge = true,
+            ("--list", _) => calls = false,
             ("--runs", rest) => match rest.next().and_then(|n| n.parse().ok()) {
                 Some(n) => runs = n,
                 None => return usage(),
@@ -42,22 +61,12 @@ fn main() -> ExitCode {
         }
     }
     sources::announce();
-    println!("\nBest of {runs} runs, at 2^20 bits of {}; {QUERIES} selects a run.", 8 * runs);
-    println!("Each cell: ratio (ours / Rust); for check: (check / our build).\n");
-    println!("| bits | selected | polarity | {} |", COLUMNS.join(" | "));
-    println!("|---|---|---|{}", "---|".repeat(COLUMNS.len()));
-    let mut table = Table::default();
-    for log2 in sizes {
-        for halvings in [1, 4, 8, 12] {
-            for polarity in [model::ONES, model::ZEROS] {
-                table.row(log2, halvings, polarity, runs);
-            }
-        }
+    println!("\nBest of {runs} runs, at 2^20 bits of {}; {QUERIES} selects a run, {LISTED} ranks in lists.", 8 * runs);
+    println!("Each cell: ratio (ours / Rust); for check: (check / our build); for lists: (ours / the Rust's selects).");
+    if calls {
+        Table { columns: CALLS, measure, rows: Vec::new() }.print(&sizes, huge, runs);
     }
-    if huge {
-        table.row(32, 1, model::ONES, 2);
-    }
-    table.print();
+    Table { columns: LISTS, measure: measure_lists, rows: Vec::new() }.print(&sizes, huge, runs);
     ExitCode::SUCCESS
 }
 
@@ -77,17 +86,41 @@ fn rising(n: u64) -> Vec<u64> {
     (0..QUERIES).map(|i| (i as u128 * n as u128 / QUERIES as u128) as u64).collect()
 }
 
+/// Lists of so many ranks, one after the other: neighbours from random ranks on, which rise from list to list, or ranks
+/// spread evenly, each list by another offset. Where the record has fewer bits, ranks repeat, evenly.
+fn lists(n: u64, count: u64, spread: bool, random: &Random) -> Vec<u64> {
+    let neighbours = !spread && count <= n;
+    let mut from: Vec<u64> =
+        (0..LISTED / count).map(|_| random.below(if neighbours { n - count + 1 } else { n })).collect();
+    if neighbours {
+        from.sort();
+    }
+    let evenly = |from: u64, i: u64| ((i as u128 * n as u128 + from as u128) / count as u128) as u64;
+    let rank = |from, i| if neighbours { from + i } else { evenly(from, i) };
+    from.iter().flat_map(|&from| (0..count).map(move |i| rank(from, i))).collect()
+}
+
+/// Cells to build in, touched before; the Rust allocates while it builds.
+fn lent(record: &Record) -> (Vec<u64>, Vec<u64>) {
+    let (inventory_len, spill_len) = record.size(&cases::default()).expect("a lawful record");
+    (vec![1; inventory_len as usize], vec![1; spill_len as usize])
+}
+
 /// Our call alone, over and over for two seconds, for a profiler to watch.
 fn ours(call: &str, log2: u32, halvings: u32) -> ExitCode {
     let random = Random::new(5);
     let words = sparse(log2, halvings, model::ONES, &random);
     let record = Record { words: &words, len: 1 << log2, polarity: model::ONES };
     let choice = cases::default();
-    let (inventory_len, spill_len) = record.size(&choice).expect("a lawful record");
-    let (mut inventory, mut spill) = (vec![1; inventory_len as usize], vec![1; spill_len as usize]);
+    let (mut inventory, mut spill) = lent(&record);
     let summary = record.build(&choice, &mut inventory, &mut spill).unwrap();
     let n = record.count().unwrap();
-    let ranks = if call == "random" { (0..QUERIES).map(|_| random.below(n)).collect() } else { rising(n) };
+    let ranks = match call {
+        "random" => (0..QUERIES).map(|_| random.below(n)).collect(),
+        "list" => lists(n, 40, false, &random),
+        _ => rising(n),
+    };
+    let mut places = vec![0; LISTED as usize];
     let started = Instant::now();
     let mut times = 0;
     while started.elapsed().as_secs() < 2 {
@@ -95,9 +128,13 @@ fn ours(call: &str, log2: u32, halvings: u32) -> ExitCode {
         match call {
             "build" => drop(black_box(record.build(&choice, &mut inventory, &mut spill))),
             "check" => drop(black_box(record.check(&choice, &summary, &inventory, &spill))),
-            "random" | "rising" => {
+            "random" | "rising" | "list" => {
                 let index = Index { words: &words, summary: &summary, inventory: &inventory, spill: &spill };
-                black_box(ranks.iter().map(|&rank| index.select(rank).unwrap()).fold(0, u64::wrapping_add));
+                black_box(if call == "list" {
+                    answer_lists(&index, 40, &ranks, &mut places)
+                } else {
+                    ranks.iter().map(|&rank| index.select(rank).unwrap()).fold(0, u64::wrapping_add)
+                });
             }
             _ => return usage(),
         }
@@ -106,52 +143,67 @@ fn ours(call: &str, log2: u32, halvings: u32) -> ExitCode {
     ExitCode::SUCCESS
 }
 
-#[derive(Default)]
-struct Table {
+/// Seconds, ours and the Rust's, for each column, by words, length, polarity and number of runs.
+type Measure<const K: usize> = fn(&[u64], u64, u32, &Random, u32) -> [(f64, f64); K];
+
+struct Table<const K: usize> {
+    columns: [Column; K],
+    measure: Measure<K>,
     /// For each row its name and ratios.
-    rows: Vec<(String, [f64; 5])>,
+    rows: Vec<(String, [f64; K])>,
 }
 
-impl Table {
+impl<const K: usize> Table<K> {
+    fn print(mut self, sizes: &[u32], huge: bool, runs: u32) {
+        let names = self.columns.map(|column| column.0);
+        println!("\n| bits | selected | polarity | {} |", names.join(" | "));
+        println!("|---|---|---|{}", "---|".repeat(K));
+        for &log2 in sizes {
+            for halvings in [1, 4, 8, 12] {
+                for polarity in [model::ONES, model::ZEROS] {
+                    self.row(log2, halvings, polarity, runs);
+                }
+            }
+        }
+        if huge {
+            self.row(32, 1, model::ONES, 2);
+        }
+        let column = |i: usize| self.rows.iter().map(move |row| row.1[i]);
+        let mean = |i| (column(i).map(f64::ln).sum::<f64>() / self.rows.len() as f64).exp();
+        let means: Vec<_> = (0..K).map(|i| format!("{:.2}", mean(i))).collect();
+        println!("| geometric mean | | | {} |", means.join(" | "));
+        println!("\nWorst ratios:");
+        for (i, name) in names.iter().enumerate() {
+            let worst = self.rows.iter().max_by(|a, b| a.1[i].total_cmp(&b.1[i])).expect("a row");
+            println!("- {name}: {:.2} at {}", worst.1[i], worst.0);
+        }
+    }
+
     fn row(&mut self, log2: u32, halvings: u32, polarity: u32, runs: u32) {
         let random = Random::new(5);
         let words = sparse(log2, halvings, polarity, &random);
         // The smallest is over in microseconds: more runs for a steady best.
         let runs = if log2 <= 20 { 8 * runs } else { runs };
-        let times = measure(&words, 1 << log2, polarity, &random, runs);
+        let times = (self.measure)(&words, 1 << log2, polarity, &random, runs);
         let ratios = times.map(|(ours, theirs)| ours / theirs);
         let name = ["ones", "zeros"][polarity as usize];
         let percent = 100.0 / (1u64 << halvings) as f64;
-        let cells = (0..5).map(|i| format!("{:.2} ({})", ratios[i], pair(times[i], i >= 3))).collect::<Vec<_>>();
+        let cells: Vec<_> =
+            (0..K).map(|i| format!("{:.2} ({})", ratios[i], pair(times[i], self.columns[i].1))).collect();
         println!("| 2^{log2} | {percent:.3} % | {name} | {} |", cells.join(" | "));
         self.rows.push((format!("2^{log2}, {percent:.3} % {name}"), ratios));
     }
-
-    fn print(&self) {
-        let column = |i: usize| self.rows.iter().map(move |row| row.1[i]);
-        let mean = |i| (column(i).map(f64::ln).sum::<f64>() / self.rows.len() as f64).exp();
-        let means: Vec<_> = (0..5).map(|i| format!("{:.2}", mean(i))).collect();
-        println!("| geometric mean | | | {} |", means.join(" | "));
-        println!("\nWorst ratios:");
-        for (i, name) in COLUMNS.iter().enumerate() {
-            let worst = self.rows.iter().max_by(|a, b| a.1[i].total_cmp(&b.1[i])).expect("a row");
-            println!("- {name}: {:.2} at {}", worst.1[i], worst.0);
-        }
-    }
 }
 
-fn pair((ours, theirs): (f64, f64), selects: bool) -> String {
-    let (scale, unit) = if selects { (1e9 / QUERIES as f64, "ns") } else { (1e3, "ms") };
+fn pair((ours, theirs): (f64, f64), ranks: Option<u64>) -> String {
+    let (scale, unit) = ranks.map_or((1e3, "ms"), |ranks| (1e9 / ranks as f64, "ns"));
     format!("{:.2} / {:.2} {unit}", ours * scale, theirs * scale)
 }
 
-/// Seconds, ours and the Rust's, for each column.
 fn measure(words: &[u64], len: u64, polarity: u32, random: &Random, runs: u32) -> [(f64, f64); 5] {
     let record = Record { words, len, polarity };
     let choice = cases::default();
-    let (inventory_len, spill_len) = record.size(&choice).expect("a lawful record");
-    // Lent and touched before; the Rust allocates while it builds.
-    let (mut inventory, mut spill) = (vec![1; inventory_len as usize], vec![1; spill_len as usize]);
+    let (mut inventory, mut spill) = lent(&record);
     let n = record.count().expect("a lawful record");
     let random_ranks: Vec<u64> = (0..QUERIES).map(|_| random.below(n)).collect();
     let rising_ranks = rising(n);
@@ -194,6 +246,49 @@ fn selects(best: &mut (f64, f64), swap: bool, ranks: &[u64], index: &Index, thei
     let ours = || ranks.iter().map(|&rank| index.select(rank).unwrap()).fold(0, u64::wrapping_add);
     let (a, b) = both(best, swap, ours, || ranks.iter().map(|&rank| theirs(rank)).fold(0, u64::wrapping_add));
     assert_eq!(a, b);
+}
+
+fn measure_lists(words: &[u64], len: u64, polarity: u32, random: &Random, runs: u32) -> [(f64, f64); 4] {
+    let record = Record { words, len, polarity };
+    let (mut inventory, mut spill) = lent(&record);
+    let summary = record.build(&cases::default(), &mut inventory, &mut spill).expect("a lawful record");
+    let index = Index { words, summary: &summary, inventory: &inventory, spill: &spill };
+    let queries = [(40, false), (40, true), (4096, false), (4096, true)]
+        .map(|(count, spread)| (count as usize, lists(summary.n, count, spread, random)));
+    let theirs: AddNumBits<_> = BitVec::new(words, len as usize).into();
+    if polarity == model::ONES {
+        let structure = SelectAdapt::new(theirs);
+        time_lists(&index, &queries, runs, |rank| structure.select(rank as usize).unwrap() as u64)
+    } else {
+        let structure = SelectZeroAdapt::new(theirs);
+        time_lists(&index, &queries, runs, |rank| structure.select_zero(rank as usize).unwrap() as u64)
+    }
+}
+
+/// Each column's lists against the Rust's selects of the same ranks in a loop.
+fn time_lists(
+    index: &Index,
+    queries: &[(usize, Vec<u64>); 4],
+    runs: u32,
+    select: impl Fn(u64) -> u64,
+) -> [(f64, f64); 4] {
+    let mut best = [(f64::INFINITY, f64::INFINITY); 4];
+    let (mut places, mut theirs) = (vec![0; LISTED as usize], vec![0; LISTED as usize]);
+    for run in 0..runs {
+        for ((count, ranks), best) in queries.iter().zip(&mut best) {
+            let ours = || answer_lists(index, *count, ranks, &mut places);
+            let loops = || ranks.iter().zip(&mut theirs).for_each(|(&rank, place)| *place = select(rank));
+            both(best, run % 2 == 1, ours, loops);
+            assert!(places == theirs, "positions differ");
+        }
+    }
+    best
+}
+
+/// Lists of `count` ranks each, into as many places; the words read.
+fn answer_lists(index: &Index, count: usize, ranks: &[u64], places: &mut [u64]) -> u64 {
+    let lists = ranks.chunks(count).zip(places.chunks_mut(count));
+    lists.map(|(ranks, places)| index.list(ranks, places).unwrap()).sum()
 }
 
 /// Right after the build: the selects would leave it a colder cache than the build had.
