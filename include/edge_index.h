@@ -121,8 +121,8 @@ uint32_t edge_index_dwell(const uint64_t *words, size_t words_len, const edge_in
 
 /* List: the positions of ranks that never fall, written to the first `ranks_len` places; places past these stay as they are,
  * and so do all on a refusal. Each reading goes on from the last position, or from the rank's mark where that lies later;
- * words_read: how many words of the record were read, at most as many as by single jumps. On an index built or checked the
- * positions are those of single jumps; on other cells they are where this walk leads. No ranks: 0 words.
+ * words_read: how many words of the record were read. On an index built or checked the positions are those of single jumps, and
+ * the words at most as many as theirs; on other cells both are what this walk gives. No ranks: 0 words.
  * Refusals, in this order: 1, 2, 9, 6, 7, 12, 13, 8 (any rank), 10. */
 uint32_t edge_index_select_list(const uint64_t *words, size_t words_len, const edge_index_summary *summary,
                                 const uint64_t *inventory, size_t inventory_len, const uint64_t *spill, size_t spill_len,

@@ -53,7 +53,7 @@ pub finds-none : (pol : Polarity) (ws : List ℕ) (len from k p : ℕ) → len �
 finds-none pol ws len from k p l r = record { position = record-none pol ws len from k p l r; word = tt }
 
 -- a seek goes on from a later place with what remains
-pub seek-on : (pol : Polarity) (ws : List ℕ) (len from k next left : ℕ) → from < len
+seek-on : (pol : Polarity) (ws : List ℕ) (len from k next left : ℕ) → from < len
     → rank (selected pol ws len) next + left ≡ rank (selected pol ws len) from + k
     → seek (selected pol ws len) (len - next) next left ≡ seek (selected pol ws len) (len - from) from k
 seek-on pol ws len from k next left l e =

@@ -3,9 +3,8 @@ ghost use mathlib.Core.Path.{_≡_};
 ghost use Prim.Native.Nat.{_+_, _-_, _*_, _/_, _^_, _≤_, _<_};
 ghost use lib.ListN.{length};
 ghost use Rattle.rank_sel.specs.Outcome.{answered, testBy, tested as testedAs};
-ghost use Rattle.rank_sel.specs.Seek.{seek};
 ghost use Rattle.select_in_word.specs.Holds.{Holds};
-ghost use Rattle.bit_record.specs.Record.{Admitted, CountsWords, Finds, bitAt, chosen, complemented, countOf, found, ofRecord, selected};
+ghost use Rattle.bit_record.specs.Record.{Admitted, CountsWords, Finds, bitAt, chosen, complemented, countOf, ofRecord, selected};
 use rank_sel::Answer;
 use rank_sel::Refusal;
 use rank_sel::Tested;
@@ -104,8 +103,8 @@ pub fn count(words: &[u64], len: u64, polarity: Polarity) -> Answer
     Answer::Value(total + count_ones(selected_word(words, full, len, polarity)))
 }
 
-// The selected position at or after `from` with exactly `k` selected between, `from` included. Every reading of
-// the record's bits beyond the count goes through here, word by word.
+// The selected position at or after `from` with exactly `k` selected between, `from` included: the loop over words of every
+// seek.
 pub fn seek_from(words: &[u64], len: u64, polarity: Polarity, from: u64, k: u64) -> RecordSeek
     requires { ⌜ Admitted (now words) len ⌝ }
     ensures { λ r. ⌜ Finds (selected polarity (now (words .entry)) len) (len - from) from k r ⌝ }
@@ -151,7 +150,7 @@ const BLOCK: usize = 8;
 // The same for a position that is likely far off: blocks that end before it are counted whole.
 pub fn seek_far(words: &[u64], len: u64, polarity: Polarity, from: u64, k: u64) -> RecordSeek
     requires { ⌜ Admitted (now words) len × (k ≤ 2 ^ 63) ⌝ }
-    ensures { λ r. ⌜ found r ≡ seek (selected polarity (now (words .entry)) len) (len - from) from k ⌝ }
+    ensures { λ r. ⌜ Finds (selected polarity (now (words .entry)) len) (len - from) from k r ⌝ }
 {
     if len <= from {
         return RecordSeek::Nowhere;

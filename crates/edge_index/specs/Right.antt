@@ -12,7 +12,7 @@ use Rattle.spacing.specs.Spacing.{N, L}
 use Rattle.inventory.specs.declared.summary.Summary.{Summary}
 use Rattle.read_inventory.specs.Read.{Place, start, own, over, placeAt, markNumber}
 use Rattle.read_inventory.specs.Jump.{selectOf, hintOf, dwellOf, Part, ofInventory, ofSpill, empty, subinventoryOf}
-use Rattle.select_list.specs.List.{falls, anyTooLarge, Listed, listOf, placesAfter, sumOver}
+use Rattle.select_list.specs.List.{falls, NeverFalls, anyTooLarge, Listed, listOf, placesAfter, sumOver}
 use Rattle.select_list.specs.Step.{singleWords}
 use Rattle.edge_index.specs.Sound.{Bit, qOf, markRank}
 
@@ -30,7 +30,7 @@ Within (over a j) empty = ⊥
 
 -- ranks that never fall, each below num, and a place for each among so many lent
 pub record Answerable (num : ℕ) (ranks : List ℕ) (lent : ℕ) : Type 0 where
-  pub rising : (i : ℕ) → i + 1 < length ranks → getD ranks i 0 ≤ getD ranks (i + 1) 0
+  pub rising : NeverFalls ranks
   pub below : (i : ℕ) → i < length ranks → getD ranks i 0 < num
   pub room : length ranks ≤ lent
 

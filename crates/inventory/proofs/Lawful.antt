@@ -12,7 +12,7 @@ use Rattle.inventory.specs.Lawful.{unlawful, Lawful}
 use Rattle.inventory.specs.declared.summary.Summary.{Summary}
 
 -- ---- both ways between the condition and the rules
-or-false : (a b : Bool) → a || b ≡ false → (a ≡ false) × (b ≡ false)
+pub or-false : (a b : Bool) → a || b ≡ false → (a ≡ false) × (b ≡ false)
 or-false true b e = absurd (false≢true (sym e))
 or-false false b e = (refl, e)
 

@@ -10,11 +10,8 @@ use lib.Dec.{leb, ltb}
 use lib.ListN.{length, getD, drop}
 use lib.Seq.{drop-cons, drop-length}
 use borrow.Author.Tests.{lt-ltb, le-ltb, lt-leb, le-leb, leb-true, ltb-false, leb-false}
-use Rattle.select_list.specs.List.{fallsFrom, anyTooLarge}
-
-or-false : (a b : Bool) → a || b ≡ false → (a ≡ false) × (b ≡ false)
-or-false true b e = let z : _≡_ {A = ℕ} 0 1 = cc in absurd (omega arith)
-or-false false b e = (refl, e)
+use Rattle.inventory.proofs.Lawful.{or-false}
+use Rattle.select_list.specs.List.{fallsFrom, NeverFalls, anyTooLarge}
 
 or-right : (b : Bool) → b || false ≡ b
 or-right true = refl
@@ -93,8 +90,7 @@ large-some num q (r ∷ rs) e h =
 
 -- ---- rank by rank
 -- ranks that rise from each to the next fall nowhere
-pub rising-none : (rs : List ℕ) (q : ℕ) → (0 < length rs → q ≤ getD rs 0 0)
-    → ((i : ℕ) → i + 1 < length rs → getD rs i 0 ≤ getD rs (i + 1) 0) → fallsFrom q rs ≡ false
+pub rising-none : (rs : List ℕ) (q : ℕ) → (0 < length rs → q ≤ getD rs 0 0) → NeverFalls rs → fallsFrom q rs ≡ false
 unfolding fallsFrom
 rising-none [] q a h = refl
 rising-none (r ∷ rs) q a h =

@@ -6,7 +6,7 @@ use mathlib.Core.Option.{Option, none, some}
 use mathlib.Core.Path.{_≡_, refl, sym, subst, _∙_}
 use Prim.Native.Nat.{ℕ, _+_, _-_, _*_, _/_, _≤_, _<_}
 use native.Mathlib.Omega.{arith}
-use lib.Dec.{ltb}
+use lib.Dec.{eqb, ltb}
 use borrow.Author.Tests.{eq-eqb, eqb-true}
 use Rattle.rank_sel.specs.Rank.{ind}
 use Rattle.rank_sel.specs.Seek.{Sought}
@@ -22,29 +22,21 @@ use Rattle.read_inventory.specs.declared.decode.Marked.{Marked}
 use Rattle.read_inventory.specs.declared.decode.Marked.the-variants as Marked·v
 use Rattle.read_inventory.proofs.Answers.{MarkRead, low-by}
 use Rattle.select_list.specs.Hand.{lastOf, HandIn, isLater, startAs, Starts, Advances, Reads}
-use Rattle.select_list.specs.Step.{Reached, fromMark, startOf, inHand, wordsRead, readFrom, stepFrom, stepOf}
+use Rattle.select_list.specs.Step.{Reached, fromMark, startOf, ofLast, inHand, wordsRead, readFrom, stepFrom, stepOf}
 use Rattle.select_list.specs.declared.step.Advanced.{Advanced}
 use Rattle.select_list.specs.declared.step.Advanced.the-variants.{To, Refused}
 use Rattle.select_list.specs.declared.step.Hand.{Hand}
 use Rattle.select_list.specs.declared.step.StartAt.{StartAt}
 
 -- ---- where a reading starts
--- a reading begins at the last bit
-last-is : (h : Hand) (mark : ℕ) → isLater (lastOf h) mark ≡ true → (h .any ≡ true) × (ltb mark (h .at) ≡ true)
-last-is h mark e = go (h .any) refl e
+-- what is in hand is the last bit, and what holds of the one holds of the other
+last-is : (is : Reached → Bool) (h : Hand) → ofLast is (lastOf h) ≡ true
+    → (h .any ≡ true) × (is (record { at = h .at; rank = h .rank }) ≡ true)
+last-is is h e = go (h .any) refl e
   where
-    go : (a : Bool) → h .any ≡ a → isLater (cond a (some (record { at = h .at; rank = h .rank })) none) mark ≡ true
-        → (h .any ≡ true) × (ltb mark (h .at) ≡ true)
+    go : (a : Bool) → h .any ≡ a → ofLast is (cond a (some (record { at = h .at; rank = h .rank })) none) ≡ true
+        → (h .any ≡ true) × (is (record { at = h .at; rank = h .rank }) ≡ true)
     go true a e = (a, e)
-    go false a e = let z : _≡_ {A = ℕ} 0 1 = cc in absurd (omega arith)
-
--- the word in hand is the last bit's
-in-hand : (h : Hand) (p : ℕ) → inHand (lastOf h) p ≡ true → (h .any ≡ true) × (p / 64 ≡ h .at / 64)
-in-hand h p e = go (h .any) refl e
-  where
-    go : (a : Bool) → h .any ≡ a → inHand (cond a (some (record { at = h .at; rank = h .rank })) none) p ≡ true
-        → (h .any ≡ true) × (p / 64 ≡ h .at / 64)
-    go true a e = (a, eqb-true (p / 64) (h .at / 64) e)
     go false a e = let z : _≡_ {A = ℕ} 0 1 = cc in absurd (omega arith)
 
 start-else : (last : Option Reached) (r : ℕ) (m : Mark) → isLater last (m .at) ≡ false → fromMark m ≡ startOf last r m
@@ -58,7 +50,7 @@ module _ (f : ℕ → Bool) (len : ℕ) (h : Hand) (r mark k : ℕ) where
   pub starts-last : HandIn f len h → isLater (lastOf h) mark ≡ true
       → Starts f len (lastOf h) r m (record { from = h .at; passes = r - h .rank; word = h .word; fresh = 0 })
   starts-last i e =
-      let w = last-is h mark e in
+      let w = last-is (λ b. ltb mark (b .at)) h e in
       record {
         start = rw (w .0, w .1);
         begun = record { low = i .low (w .0); once = omega arith; word = i .word (w .0) };
@@ -69,10 +61,11 @@ module _ (f : ℕ → Bool) (len : ℕ) (h : Hand) (r mark k : ℕ) where
     pub starts-hand : HandIn f len h → inHand (lastOf h) mark ≡ true
         → Starts f len (lastOf h) r m (record { from = mark; passes = k; word = h .word; fresh = 0 })
     starts-hand i d =
-        let w = in-hand h mark d in
+        let w = last-is (λ b. eqb (mark / 64) (b .at / 64)) h d in
+        let same = eqb-true (mark / 64) (h .at / 64) (w .1) in
         record {
           start = start-else (lastOf h) r m e;
-          begun = record { low = l; once = omega arith; word = subst (λ (j : ℕ). Holds 64 f (64 * j) (h .word)) (sym (w .1)) (i .word (w .0)) };
+          begun = record { low = l; once = omega arith; word = subst (λ (j : ℕ). Holds 64 f (64 * j) (h .word)) (sym same) (i .word (w .0)) };
           fresh = rw d;
         }
 

@@ -1,5 +1,5 @@
 -- What the values that the list's code hands on stand for, in the words of Step and List.
-use mathlib.Core.Bool.{Bool, true, false, cond}
+use mathlib.Core.Bool.{Bool, true, cond}
 use mathlib.Core.List.{List, [], _∷_}
 use mathlib.Core.Option.{Option, none, some}
 use mathlib.Core.Path.{_≡_}
@@ -13,8 +13,8 @@ use Rattle.select_in_word.specs.Holds.{Holds}
 use Rattle.inventory.specs.declared.summary.Summary.{Summary}
 use Rattle.read_inventory.specs.Read.{Mark}
 use Rattle.read_inventory.specs.Tests.{Readable}
-use Rattle.select_list.specs.List.{Walk, Listed, totalOf, placesAfter}
-use Rattle.select_list.specs.Step.{Reached, Start, startOf, inHand, Step, readFrom}
+use Rattle.select_list.specs.List.{Walk, NeverFalls, Listed, totalOf, placesAfter}
+use Rattle.select_list.specs.Step.{Reached, Start, startOf, ofLast, inHand, Step, readFrom}
 use Rattle.select_list.specs.declared.step.Advance.{Advance}
 use Rattle.select_list.specs.declared.step.Advanced.{Advanced}
 use Rattle.select_list.specs.declared.step.Advanced.the-variants as Advanced·v
@@ -32,8 +32,7 @@ pub record HandIn (f : ℕ → Bool) (len : ℕ) (h : Hand) : Type 0 where
 
 -- the last bit lies strictly later than a mark
 abbrev pub isLater : Option Reached → ℕ → Bool
-isLater none mark = false
-isLater (some b) mark = ltb mark (b .at)
+isLater last mark = ofLast (λ b. ltb mark (b .at)) last
 
 abbrev pub startAs : StartAt → Start
 startAs s = record { from = s .from; passes = s .passes }
@@ -75,7 +74,7 @@ Reads f len r s x =
 -- each rank can be read, and none is below the one before it
 pub record Walkable (t : Summary) (inv sp ranks : List ℕ) : Type 0 where
   pub readable : (i : ℕ) → i < length ranks → Readable t inv sp (getD ranks i 0)
-  pub rising : (i : ℕ) → i + 1 < length ranks → getD ranks i 0 ≤ getD ranks (i + 1) 0
+  pub rising : NeverFalls ranks
 
 -- positions written over what was there, as far as there is room
 unfoldable pub written : List ℕ → List ℕ → List ℕ

@@ -2,9 +2,9 @@
 use mathlib.Core.Bool.{Bool, false, _||_}
 use mathlib.Core.List.{List, [], _∷_, _++_}
 use mathlib.Core.Option.{Option, none}
-use Prim.Native.Nat.{ℕ, _+_}
+use Prim.Native.Nat.{ℕ, _+_, _≤_, _<_}
 use lib.Dec.{ltb}
-use lib.ListN.{length, drop}
+use lib.ListN.{length, getD, drop}
 use Rattle.rank_sel.specs.Outcome.{Outcome, answer, refused, Conditions, refuseBy, andThen}
 use Rattle.spacing.specs.Spacing.{N}
 use Rattle.inventory.specs.declared.summary.Summary.{Summary}
@@ -37,6 +37,10 @@ fallsFrom q (r ∷ rs) = ltb r q || fallsFrom r rs
 -- none is below 0
 abbrev pub falls : List ℕ → Bool
 falls ranks = fallsFrom 0 ranks
+
+-- the same by neighbours, for the promise
+abbrev pub NeverFalls : List ℕ → Type 0
+NeverFalls ranks = (i : ℕ) → i + 1 < length ranks → getD ranks i 0 ≤ getD ranks (i + 1) 0
 
 abbrev pub tooFewPlaces : ℕ → List ℕ → Bool
 tooFewPlaces lent ranks = ltb lent (length ranks)

@@ -29,10 +29,14 @@ abbrev pub startOf : Option Reached → ℕ → Mark → Start
 startOf none r m = fromMark m
 startOf (some b) r m = cond (ltb (m .at) (b .at)) (record { from = b .at; passes = r - b .rank }) (fromMark m)
 
+-- there is a last bit, and it is so
+abbrev pub ofLast : (Reached → Bool) → Option Reached → Bool
+ofLast is none = false
+ofLast is (some b) = is b
+
 -- the word in hand is the last bit's
 abbrev pub inHand : Option Reached → ℕ → Bool
-inHand none p = false
-inHand (some b) p = eqb (p / 64) (b .at / 64)
+inHand last p = ofLast (λ b. eqb (p / 64) (b .at / 64)) last
 
 -- the words from one position's to another's, both counted
 abbrev pub wordsTo : ℕ → ℕ → ℕ

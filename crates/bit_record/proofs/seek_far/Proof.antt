@@ -1,13 +1,12 @@
--- The rank at word i and what remains make the rank at `from` and k, so that a seek from there finds the same (`seek-same`).
+-- The rank at word i and what remains make the rank at `from` and k, so that a seek from there finds the same (`finds-on`).
 use mathlib.Core.Path.{_≡_, ap, _∙_}
 use Prim.Native.Nat.{_+_, _-_, _*_, _%_, _^_, _≤_}
 use native.Mathlib.Omega.{arith}
 use lib.Count.{ones}
 use borrow.Author.Needs.{needs}
 use Rattle.rank_sel.specs.Rank.{rank}
-use Rattle.rank_sel.proofs.Seek.{seek-same}
 use Rattle.bit_record.specs.Record.{selected}
-use Rattle.bit_record.proofs.Seek.{record-none, before-from}
+use Rattle.bit_record.proofs.Seek.{finds-none, finds-on, before-from}
 use Rattle.bit_record.proofs.seek_far.Statement.{statement}
 use Rattle.bit_record.proofs.seek_far.Tie as tie
 
@@ -22,7 +21,7 @@ returns : tie.Need-returns Inv-loop μ-loop
 returns c =
     let at-start = c .before .before in
     let a = at-start .args in
-    record-none (a .polarity) (a .words .now) (a .len) (a .from) (a .k) (a .from) (omega arith) (omega arith)
+    finds-none (a .polarity) (a .words .now) (a .len) (a .from) (a .k) (a .from) (omega arith) (omega arith)
 
 selected-word-requires : tie.Need-selected-word-requires Inv-loop μ-loop
 selected-word-requires c κs =
@@ -75,8 +74,8 @@ returns-2 c =
     let at-start = at-loop .before .before .before .before .before .before in
     let a = at-start .args in
     let l = at-loop .loop in
-    c .seek-from .ensures .position ∙ seek-same (selected (a .polarity) (a .words .now) (a .len)) (a .len - 64 * l .i) (64 * l .i) (l .remaining)
-    (a .len - a .from) (a .from) (a .k) (omega arith) (l .inv .1)
+    finds-on (a .polarity) (a .words .now) (a .len) (a .from) (a .k) (64 * l .i) (l .remaining) (c .seek-from .result) (omega arith) (l .inv .1)
+    (c .seek-from .ensures)
 
 add-i : tie.Need-add-i Inv-loop μ-loop
 add-i c =
@@ -108,8 +107,8 @@ returns-3 c =
     let at-start = at-loop .before .before .before .before .before .before in
     let a = at-start .args in
     let l = at-loop .loop in
-    c .seek-from2 .ensures .position ∙ seek-same (selected (a .polarity) (a .words .now) (a .len)) (a .len - 64 * l .i) (64 * l .i) (l .remaining)
-    (a .len - a .from) (a .from) (a .k) (omega arith) (l .inv .1)
+    finds-on (a .polarity) (a .words .now) (a .len) (a .from) (a .k) (64 * l .i) (l .remaining) (c .seek-from2 .result) (omega arith) (l .inv .1)
+    (c .seek-from2 .ensures)
 
 pub seek-far-spec : {M : Type 1} → statement M
 seek-far-spec =

@@ -30,7 +30,7 @@ returns c =
     let r = at-start .pre in
     let o = at-ones .pow2 in
     c .or-end .ensures
-    ∙ ap (orEnd (a .plan)) (at-seek .seek-far .ensures)
+    ∙ ap (orEnd (a .plan)) (at-seek .seek-far .ensures .position)
     ∙ bound-next (a .words .now) (a .plan) (r .0) (a .first) (2 ^ L (a .plan)) (a .start) (o .result) (r .1) (r .2) (o .ensures)
 
 pub next-start-spec : {M : Type 1} → statement M

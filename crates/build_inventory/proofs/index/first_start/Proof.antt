@@ -18,7 +18,7 @@ returns c =
     let at-seek = c .before in
     let at-start = at-seek .before .before in
     let a = at-start .args in
-    c .or-end .ensures ∙ ap (orEnd (a .plan)) (at-seek .seek-far .ensures) ∙ bound-first (a .words .now) (a .plan) (at-start .pre)
+    c .or-end .ensures ∙ ap (orEnd (a .plan)) (at-seek .seek-far .ensures .position) ∙ bound-first (a .words .now) (a .plan) (at-start .pre)
 
 pub first-start-spec : {M : Type 1} → statement M
 first-start-spec = tie.close (tie.spec seek-far-requires or-end-requires returns)
