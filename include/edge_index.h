@@ -1,11 +1,13 @@
 /* Decklerose: the edge index, for C. Implemented and proved in crates/edge_index_c; `rt staticlib edge_index_c` writes
  * target/staticlib/libedge_index_c.a, which needs nothing but the C library (of which it calls memset). x86-64 Linux.
  *
- * Every call returns 0, or the number of the refusal that turned it down (1 to 13, below), or EDGE_INDEX_BAD_CODE for a
+ * Every call returns 0, or the number of the refusal that turned it down (1 to 14, below), or EDGE_INDEX_BAD_CODE for a
  * polarity or a kind of choice that is none, which is tested first. On anything but 0 nothing behind a pointer changes.
  *
  * A record is `words_len` words, of which the first `len` bits count: bit p is bit p mod 64, lowest first, of word
- * p div 64. The edges are its ones, or its zeros, by the polarity; they are numbered from 0, the number being the rank.
+ * p div 64. The edges are its ones, or its zeros, by the polarity; they are numbered from 0, the number being the rank. Where
+ * the record is part of a longer stream, its origin is the sample number of bit 0; elsewhere it is 0. Jump, hint and list
+ * answer with sample numbers: the origin plus the position. The cells and a dwell do not go by it.
  *
  * What the caller owes, since a proof cannot ask it of C: each pointer is aligned and stands for as many elements as its
  * length says, of which those that are read are initialized; what a call writes overlaps nothing else that it is lent;
@@ -25,6 +27,7 @@
  *   11  dwell with a > b
  *   12  a list in which a rank is below the one before it
  *   13  a list with fewer places than ranks
+ *   14  origin plus len over 2^62 - 1, as whole numbers
  */
 #ifndef EDGE_INDEX_H
 #define EDGE_INDEX_H
@@ -48,11 +51,12 @@ enum { EDGE_INDEX_ONES = 0, EDGE_INDEX_ZEROS = 1 };
  */
 enum { EDGE_INDEX_DEFAULT = 0, EDGE_INDEX_SPAN = 1, EDGE_INDEX_POWER = 2, EDGE_INDEX_OVERHEAD = 3, EDGE_INDEX_FIXED = 4 };
 
-/* A summary is eight numbers, in this order. */
+/* A summary is nine numbers, in this order. */
 typedef struct {
     uint64_t polarity;
     uint64_t len;
     uint64_t num;                         /* N */
+    uint64_t origin;                      /* the sample number of bit 0 */
     uint64_t log2_ones_per_inventory;     /* L */
     uint64_t log2_words_per_subinventory; /* M */
     uint64_t log2_ones_per_sub16;         /* S */
@@ -64,7 +68,7 @@ typedef struct {
  * Refusals 1, 2. */
 uint32_t edge_index_count(const uint64_t *words, size_t words_len, uint64_t len, uint32_t polarity, uint64_t *num);
 
-/* Plan: the summary up to S that a build with this choice would have; its two cell counts are 0.
+/* Plan: the summary up to S that a build with this choice would have; its origin and its two cell counts are 0.
  * Refusals 1 to 5. */
 uint32_t edge_index_plan(const uint64_t *words, size_t words_len, uint64_t len, uint32_t polarity,
                          uint32_t kind, uint64_t value, double percentage, uint32_t log2, edge_index_summary *summary);
@@ -77,30 +81,31 @@ uint32_t edge_index_size(const uint64_t *words, size_t words_len, uint64_t len, 
 
 /* Build: writes the index into the lent cells, and its summary. The cells need not be zero before, and those past the
  * counts stay as they are; record, summary and cells are then what the calls below take.
- * Refusals 1 to 7. */
-uint32_t edge_index_build(const uint64_t *words, size_t words_len, uint64_t len, uint32_t polarity,
+ * Refusals, in this order: 1, 14, 2 to 7. */
+uint32_t edge_index_build(const uint64_t *words, size_t words_len, uint64_t len, uint64_t origin, uint32_t polarity,
                           uint32_t kind, uint64_t value, double percentage, uint32_t log2,
                           uint64_t *inventory, size_t inventory_len, uint64_t *spill, size_t spill_len,
                           edge_index_summary *summary);
 
-/* Check: yes is 1 where summary and cells are those that build would write, else 0. An index that passed answers every
+/* Check: yes is 1 where summary and cells are those that build would write, else 0; so a summary with another origin than the
+ * one handed in is a no. An index that passed answers every
  * call below rightly, wherever it came from, as long as the record and the cells within the counts stay as they are. No call
  * below finds a stale index: after a restart, check before the first jump, and build anew where yes is 0.
- * Refusals 1 to 7, the last two by the counts of record and choice. */
-uint32_t edge_index_check(const uint64_t *words, size_t words_len, uint64_t len, uint32_t polarity,
+ * Refusals as build, 14 by the origin handed in, 6 and 7 by the counts of record and choice. */
+uint32_t edge_index_check(const uint64_t *words, size_t words_len, uint64_t len, uint64_t origin, uint32_t polarity,
                           uint32_t kind, uint64_t value, double percentage, uint32_t log2,
                           const edge_index_summary *summary,
                           const uint64_t *inventory, size_t inventory_len, const uint64_t *spill, size_t spill_len,
                           uint64_t *yes);
 
-/* Jump: the position of the edge of this rank, on an index built or checked; on other cells, where they lead.
- * Refusals, in this order: 1, 2, 9, 6, 7, 8, 10. */
+/* Jump: the sample number of the edge of this rank, on an index built or checked; on other cells, where they lead.
+ * Refusals, in this order: 1, 14, 2, 9, 6, 7, 8, 10. */
 uint32_t edge_index_select(const uint64_t *words, size_t words_len, const edge_index_summary *summary,
                            const uint64_t *inventory, size_t inventory_len, const uint64_t *spill, size_t spill_len,
-                           uint64_t rank, uint64_t *position);
+                           uint64_t rank, uint64_t *sample);
 
-/* Hint: the mark that a jump to this rank starts from, and the mark's rank. On an index built or checked the mark is the
- * position of the edge of that rank, which is the one asked for or before it; on other cells it is what they say.
+/* Hint: the mark that a jump to this rank starts from, by its sample number, and the mark's rank. On an index built or checked
+ * the mark is the edge of that rank, which is the one asked for or before it; on other cells it is what they say.
  * Refused as jump is, but that it looks for no bit from the mark on. */
 uint32_t edge_index_hint(const uint64_t *words, size_t words_len, const edge_index_summary *summary,
                          const uint64_t *inventory, size_t inventory_len, const uint64_t *spill, size_t spill_len,
@@ -119,11 +124,11 @@ uint32_t edge_index_dwell(const uint64_t *words, size_t words_len, const edge_in
                           const uint64_t *inventory, size_t inventory_len, const uint64_t *spill, size_t spill_len,
                           uint64_t a, uint64_t b, uint64_t *samples);
 
-/* List: the positions of ranks that never fall, written to the first `ranks_len` places; places past these stay as they are,
+/* List: the sample numbers of ranks that never fall, written to the first `ranks_len` places; places past these stay as they are,
  * and so do all on a refusal. Each reading goes on from the last position, or from the rank's mark where that lies later;
- * words_read: how many words of the record were read. On an index built or checked the positions are those of single jumps, and
+ * words_read: how many words of the record were read. On an index built or checked the samples are those of single jumps, and
  * the words at most as many as theirs; on other cells both are what this walk gives. No ranks: 0 words.
- * Refusals, in this order: 1, 2, 9, 6, 7, 12, 13, 8 (any rank), 10. */
+ * Refusals, in this order: 1, 14, 2, 9, 6, 7, 12, 13, 8 (any rank), 10. */
 uint32_t edge_index_select_list(const uint64_t *words, size_t words_len, const edge_index_summary *summary,
                                 const uint64_t *inventory, size_t inventory_len, const uint64_t *spill, size_t spill_len,
                                 const uint64_t *ranks, size_t ranks_len, uint64_t *places, size_t places_len,

@@ -21,6 +21,11 @@ a.bin 1 1
 a.bin --samples 10
 a.bin --samples 0
 --zeros --samples 10 a.bin 0 5
+a.bin --origin 100 0 3
+--zeros --samples 10 --origin 7 a.bin 5
+a.bin --origin 4611686018427387887 3
+a.bin --origin 4611686018427387888 3
+a.bin --origin 18446744073709551615
 a.bin --span 8
 a.bin --power 1
 a.bin --power 1 3

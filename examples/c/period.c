@@ -1,14 +1,15 @@
 /* The period of a square wave, from C.
  *
- * The record holds one bit for each sample, a one where the level changes. Every 500 samples the wave rises or falls,
- * so a period is two edges on. The program lends the library its buffers and frees them itself. */
+ * The record holds one bit for each sample, a one where the level changes; its first sample is number 250,000 of a
+ * longer stream. Every 500 samples the wave rises or falls, so a period is two edges on. The program lends the library
+ * its buffers and frees them itself. */
 #include "edge_index.h"
 
 #include <inttypes.h>
 #include <stdio.h>
 #include <stdlib.h>
 
-enum { SAMPLES = 1000000, HALF_PERIOD = 500, WORDS = (SAMPLES + 63) / 64 };
+enum { ORIGIN = 250000, SAMPLES = 1000000, HALF_PERIOD = 500, WORDS = (SAMPLES + 63) / 64 };
 
 static int refused(const char *call, uint32_t number) {
     fprintf(stderr, "%s: refusal %" PRIu32 "\n", call, number);
@@ -45,11 +46,11 @@ int main(void) {
     const uint64_t ranks[] = {1000, 1001, 1002};
     uint64_t places[3] = {0};
     const char *call = "build";
-    number = edge_index_build(words, WORDS, SAMPLES, EDGE_INDEX_ONES, EDGE_INDEX_DEFAULT, 0, 0.0, 0, inventory,
+    number = edge_index_build(words, WORDS, SAMPLES, ORIGIN, EDGE_INDEX_ONES, EDGE_INDEX_DEFAULT, 0, 0.0, 0, inventory,
                               inventory_len, spill, spill_len, &summary);
     if (number == 0) {
         call = "check";
-        number = edge_index_check(words, WORDS, SAMPLES, EDGE_INDEX_ONES, EDGE_INDEX_DEFAULT, 0, 0.0, 0, &summary,
+        number = edge_index_check(words, WORDS, SAMPLES, ORIGIN, EDGE_INDEX_ONES, EDGE_INDEX_DEFAULT, 0, 0.0, 0, &summary,
                                   inventory, inventory_len, spill, spill_len, &yes);
     }
     if (number == 0) {

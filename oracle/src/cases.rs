@@ -102,6 +102,21 @@ pub fn random_choice(random: &Random) -> Choice {
     }
 }
 
+/// The most that origin and `len` may sum up to.
+pub const MOST_SAMPLES: u64 = (1 << 62) - 1;
+
+/// An origin that goes with so many bits: 0, a small one, one at the limit, or any.
+pub fn origin(random: &Random, len: u64) -> u64 {
+    let last = MOST_SAMPLES.saturating_sub(len);
+    random.pick(&[0, 1, random.below(1000), random.below(last), last.saturating_sub(1), last]).min(last)
+}
+
+/// An origin that does not: just past the limit, far past it, or such that the sum wraps in 64 bits.
+pub fn origin_past(random: &Random, len: u64) -> u64 {
+    let first = (MOST_SAMPLES + 1).saturating_sub(len);
+    random.pick(&[first, first + 1, 1 << 62, 1 << 63, u64::MAX - len.saturating_sub(1), u64::MAX])
+}
+
 /// A record whose selected bits below `len` are exactly `positions`: for zeros all words are complemented. The padding
 /// and the `extra` words are whatever `dirt` gives.
 pub fn record(positions: &[u64], len: u64, polarity: u32, extra: usize, dirt: impl Fn() -> u64) -> Vec<u64> {

@@ -1,5 +1,5 @@
 //! The library against the unchanged Rust, and both against the model: parameters, inventory, spill, every select; lists
-//! against the model and against single jumps.
+//! against the model and against single jumps. The Rust has no origin: it sees our sample numbers less the origin.
 
 use crate::cases::*;
 use crate::ffi;
@@ -75,9 +75,13 @@ impl Seen {
 pub struct Tally {
     pub cases: u64,
     pub differences: u64,
+    /// Of the case at hand: origins vary from case to case.
+    origin: u64,
     cells: u64,
     selects: u64,
     refusals: u64,
+    /// How many builds were refused for their origin, and as many checks.
+    refused_origins: u64,
     /// How often a list was answered, as 0, and how often each refusal was said.
     lists: BTreeMap<u32, u64>,
     /// Entries met, by kind, with or without spill, at M 0 or above.
@@ -92,7 +96,7 @@ impl Tally {
     fn difference(&mut self, case: &Case, what: String) {
         self.differences += 1;
         if self.differences <= 20 {
-            println!("DIFFERENCE: {case}: {what:.600}");
+            println!("DIFFERENCE: {case}, origin {}: {what:.600}", self.origin);
         }
     }
 
@@ -115,6 +119,9 @@ impl Tally {
     pub fn compare(&mut self, case: &Case) {
         self.cases += 1;
         let &Case { words, len, polarity, choice } = case;
+        self.past_the_limit(case);
+        // A stream of its own, which the lists do not share.
+        self.origin = origin(&Random::new(!self.cases), len);
         let size = model::size(words, len, polarity, &choice);
         self.equal(case, "size", ffi::Record { words, len, polarity }.size(&choice), size);
         match size {
@@ -137,15 +144,35 @@ impl Tally {
         self.equal(case, "plan", ours.plan(&choice), plan);
     }
 
-    /// The Rust is to panic where we refuse; our build leaves the buffers alone.
+    /// The first origin past the limit, and the last of all: 14, but for what is tested before it.
+    fn past_the_limit(&mut self, case: &Case) {
+        let &Case { words, len, polarity, choice } = case;
+        for origin in [(MOST_SAMPLES + 1).saturating_sub(len), u64::MAX] {
+            self.origin = origin;
+            let refusal = model::built(words, len, origin, polarity, &choice, 0, 0).expect_err("past the limit");
+            self.refused_origins += (refusal == 14) as u64;
+            self.refused_build(case, refusal);
+            let summary = Summary { origin, ..Summary::from([0; 9]) };
+            let check = ffi::Record { words, len, polarity }.check(origin, &choice, &summary, &[], &[]);
+            self.equal(case, "check", check, Err(refusal));
+        }
+    }
+
+    /// Our build leaves the buffers alone.
+    fn refused_build(&mut self, case: &Case, refusal: u32) {
+        let &Case { words, len, polarity, choice } = case;
+        let (mut inventory, mut spill) = ([GARBAGE; 9], [GARBAGE; 5]);
+        let ours = ffi::Record { words, len, polarity }.build(self.origin, &choice, &mut inventory, &mut spill);
+        self.equal(case, "build", ours, Err(refusal));
+        self.equal(case, "buffers after a refused build", (inventory, spill), ([GARBAGE; 9], [GARBAGE; 5]));
+    }
+
+    /// The Rust is to panic where we refuse.
     fn refused(&mut self, case: &Case, refusal: u32) {
         self.refusals += 1;
         let &Case { words, len, polarity, choice } = case;
         self.planned(case, model::plan(words, len, polarity, &choice));
-        let (mut inventory, mut spill) = ([GARBAGE; 9], [GARBAGE; 5]);
-        let ours = ffi::Record { words, len, polarity }.build(&choice, &mut inventory, &mut spill);
-        self.equal(case, "build", ours, Err(refusal));
-        self.equal(case, "buffers after a refused build", (inventory, spill), ([GARBAGE; 9], [GARBAGE; 5]));
+        self.refused_build(case, refusal);
         if refusal == BAD_CODE {
             return;
         }
@@ -166,24 +193,28 @@ impl Tally {
 
     fn built(&mut self, case: &Case) {
         let &Case { words, len, polarity, choice } = case;
-        let model = model::built(words, len, polarity, &choice, usize::MAX, usize::MAX).expect("size answered");
+        let origin = self.origin;
+        let model = model::built(words, len, origin, polarity, &choice, usize::MAX, usize::MAX).expect("size answered");
         self.see_entries(&model);
         let summary = model.summary;
-        self.planned(case, Ok(Summary { inventory: 0, spill: 0, ..summary }));
+        self.planned(case, Ok(Summary { origin: 0, inventory: 0, spill: 0, ..summary }));
 
         // Ours, into buffers of garbage, some longer than need be.
         let past = (self.cases % 3) as usize;
         let mut inventory = vec![GARBAGE; model.inventory.len() + past];
         let mut spill = vec![GARBAGE; model.spill.len() + past];
         let record = ffi::Record { words, len, polarity };
-        let ours = record.build(&choice, &mut inventory, &mut spill);
+        let ours = record.build(origin, &choice, &mut inventory, &mut spill);
         self.equal(case, "build's summary", ours, Ok(summary));
         let (cells, kept) = inventory.split_at(model.inventory.len());
         let (spilled, kept_spill) = spill.split_at(model.spill.len());
         self.equal(case, "inventory (model)", cells, &model.inventory);
         self.equal(case, "spill (model)", spilled, &model.spill);
         self.equal(case, "cells past the counts", kept.iter().chain(kept_spill).all(|&c| c == GARBAGE), true);
-        self.equal(case, "check", record.check(&choice, &summary, &inventory, &spill), Ok(true));
+        self.equal(case, "check", record.check(origin, &choice, &summary, &inventory, &spill), Ok(true));
+        let other = Summary { origin: [origin ^ 1, u64::MAX][past % 2], ..summary };
+        let check = record.check(origin, &choice, &other, &inventory, &spill);
+        self.equal(case, "check of another origin", check, Ok(false));
         self.cells += (cells.len() + spilled.len()) as u64;
         let index = ffi::Index { words, summary: &summary, inventory: &inventory, spill: &spill };
         self.reads(case, &index);
@@ -246,10 +277,12 @@ impl Tally {
         }
     }
 
+    /// The Rust's positions against our sample numbers less the origin.
     fn selects(&mut self, case: &Case, index: &ffi::Index, theirs: &dyn Reference, n: u64) {
+        let position = |rank| index.select(rank).map(|sample| sample.wrapping_sub(index.summary.origin));
         for rank in 0..n {
-            if Some(index.select(rank)) != theirs.position(rank).map(Ok) {
-                let (ours, theirs) = (index.select(rank), theirs.position(rank));
+            if Some(position(rank)) != theirs.position(rank).map(Ok) {
+                let (ours, theirs) = (position(rank), theirs.position(rank));
                 return self.difference(case, format!("select of rank {rank}: ours {ours:?}, the Rust's {theirs:?}"));
             }
         }
@@ -283,6 +316,7 @@ impl Tally {
         let lists: u64 = self.lists.values().sum();
         println!("compared: {cases} cases, {cells} cells, {selects} selects, {refusals} refusals, {lists} lists");
         println!("how the lists came out: {}", said(&self.lists));
+        println!("origins past the limit: {} builds and as many checks refused by 14", self.refused_origins);
         println!("entries met:");
         for (kind, times) in &self.entries {
             println!("  {kind}: {times}");
@@ -299,13 +333,14 @@ pub fn said(outcomes: &BTreeMap<u32, u64>) -> String {
     outcomes.iter().map(said).collect::<Vec<_>>().join(", ")
 }
 
-/// Where a single jump on a built index leads and the words it reads: mark's word to answer's word, both counted; a U64
-/// rank reads none.
+/// The sample number a single jump on a built index gives and the words it reads: mark's word to answer's word, both
+/// counted; a U64 rank reads none.
 fn jump(index: &ffi::Index, rank: u64) -> (u64, u64) {
-    let (Ok(position), Ok((mark, _))) = (index.select(rank), index.hint(rank)) else { return (u64::MAX, 0) };
+    let (Ok(sample), Ok((mark, _))) = (index.select(rank), index.hint(rank)) else { return (u64::MAX, 0) };
+    let word = |sample: u64| sample.wrapping_sub(index.summary.origin) / 64;
     let entry = (rank >> index.summary.l) * ((1 << index.summary.m) + 1);
     let exact = index.inventory[entry as usize] >> 62 == 3;
-    (position, if exact { 0 } else { position / 64 - mark / 64 + 1 })
+    (sample, if exact { 0 } else { word(sample) - word(mark) + 1 })
 }
 
 fn as_u64(cells: &[usize]) -> &[u64] {

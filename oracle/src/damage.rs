@@ -1,5 +1,5 @@
 //! Jump, hint, store, dwell, list and check on damaged summaries and cells, against the model; and count, plan, size and
-//! build on damaged records, choices and buffers.
+//! build on damaged records, choices and buffers; all from origins that are accepted and from others.
 
 use crate::cases::*;
 use crate::compare::{Case, said};
@@ -19,6 +19,7 @@ const TAG: u64 = 3 << 62;
 struct Input {
     words: Vec<u64>,
     len: u64,
+    origin: u64,
     polarity: u32,
     choice: Choice,
     summary: Summary,
@@ -53,12 +54,12 @@ impl Tally {
         if !same {
             self.differences += 1;
             if self.differences <= MOST_PRINTED {
-                let Input { words, len, polarity, choice, summary, inventory, spill } = input;
+                let Input { words, len, origin, polarity, choice, summary, inventory, spill } = input;
                 let case = Case { words, len: *len, polarity: *polarity, choice: *choice };
                 let first =
                     |cells: &[u64]| cells.iter().take(12).map(|c| format!("{c:#x}")).collect::<Vec<_>>().join(", ");
                 println!("DIFFERENCE: {call}: ours {:.300}, model {:.300}", format!("{ours:?}"), format!("{model:?}"));
-                println!("  {case}\n  {summary:?}");
+                println!("  {case}, origin {origin}\n  {summary:?}");
                 println!("  inventory of {}: {}", inventory.len(), first(inventory));
                 println!("  spill of {}: {}", spill.len(), first(spill));
             }
@@ -75,9 +76,10 @@ pub fn run(calls: u64) -> u64 {
     let mut tally = Tally::default();
     let mut input = bases[0].clone();
     let mut rounds = 0u64;
-    // Lists draw from a stream of their own, so that the other calls are the same with them and without.
-    let list_random = Random::new(6);
-    foreign_lists(&mut tally, &list_random);
+    // Lists and origins draw from streams of their own, so that the rest is drawn the same with them and without.
+    let (list_random, origin_random) = (Random::new(6), Random::new(7));
+    worked_lists(&mut tally);
+    foreign_lists(&mut tally, &list_random, &origin_random);
     let (mut lists, mut others) = (tally.calls, 0);
     while tally.calls - others - lists < calls {
         let base = &bases[random.below(bases.len() as u64) as usize];
@@ -85,6 +87,7 @@ pub fn run(calls: u64) -> u64 {
         if random.one_in(6) {
             foreign(&random, &mut input);
         }
+        renumber(&origin_random, &mut input);
         let damages = random.pick(&[0, 1, 1, 1, 1, 2, 2, 3, 5]);
         for _ in 0..damages {
             let other = &bases[random.below(bases.len() as u64) as usize];
@@ -115,11 +118,11 @@ pub fn run(calls: u64) -> u64 {
 fn bases(random: &Random) -> Vec<Input> {
     let mut all = Vec::new();
     let mut add = |random: &Random, words: Vec<u64>, len: u64, polarity: u32, choice: Choice| {
-        let built = model::built(&words, len, polarity, &choice, usize::MAX, usize::MAX).expect("a lawful choice");
+        let built = model::built(&words, len, 0, polarity, &choice, usize::MAX, usize::MAX).expect("a lawful choice");
         let (mut inventory, mut spill) = (built.inventory, built.spill);
         inventory.extend((0..random.below(4)).map(|_| random.next()));
         spill.extend((0..random.below(4)).map(|_| random.next()));
-        all.push(Input { words, len, polarity, choice, summary: built.summary, inventory, spill });
+        all.push(Input { words, len, origin: 0, polarity, choice, summary: built.summary, inventory, spill });
     };
     for choice in [default(), power(1, 0), power(0, 3), fixed(1, 1), fixed(2, 3), span(5, 2), overhead(100.0, 3)] {
         for polarity in [ONES, 1] {
@@ -148,6 +151,19 @@ fn bases(random: &Random) -> Vec<Input> {
     all
 }
 
+/// An origin, on which no cell depends; now and then another, mostly past the limit, is handed in, in the summary, or
+/// both. Before other damage, which may then move a length past the limit too.
+fn renumber(random: &Random, input: &mut Input) {
+    let first = origin(random, input.len);
+    let second = if random.one_in(4) { origin(random, input.len) } else { origin_past(random, input.len) };
+    (input.origin, input.summary.origin) = match random.below(20) {
+        0 => (second, first),
+        1 => (first, second),
+        2 => (second, second),
+        _ => (first, first),
+    };
+}
+
 /// Summary and cells that no build wrote, but that obey the rules of refusal 9: random tags, U64 entries among them,
 /// with starts, second cells and offsets that often lead to an answer.
 fn foreign(random: &Random, input: &mut Input) {
@@ -158,7 +174,8 @@ fn foreign(random: &Random, input: &mut Input) {
     let spill = random.below(60);
     let len = input.len;
     let s = l.saturating_sub(m + 2);
-    input.summary = Summary { polarity: random.below(2), len, n, l, m, s, inventory: entries * step + 1, spill };
+    let inventory = entries * step + 1;
+    input.summary = Summary { polarity: random.below(2), len, n, origin: 0, l, m, s, inventory, spill };
     let close = || random.below(len / 8 + 2);
     let cell = || match random.below(4) {
         0 => random.below(len + 2),
@@ -166,7 +183,7 @@ fn foreign(random: &Random, input: &mut Input) {
         2 => (0..2).fold(0, |cell, _| (cell << 32) + close() % (1 << 32)),
         _ => (0..4).fold(0, |cell, _| (cell << 16) + random.below(300)),
     };
-    input.inventory = (0..entries * step + 1).map(|_| cell()).collect();
+    input.inventory = (0..inventory).map(|_| cell()).collect();
     input.spill = (0..spill).map(|_| cell()).collect();
     // From the back, so that an entry may still move the next one's start and make its own U32 span lawful.
     for e in (0..entries).rev() {
@@ -221,8 +238,8 @@ fn damage(random: &Random, input: &mut Input, other: &Input) {
         }
         // One field of the summary; 2^32 more shows a field that is cut to 32 bits.
         4 | 5 => {
-            let mut fields: [u64; 8] = input.summary.into();
-            let field = &mut fields[random.below(8) as usize];
+            let mut fields: [u64; 9] = input.summary.into();
+            let field = &mut fields[random.below(9) as usize];
             *field = match random.below(5) {
                 0 => field.wrapping_add(1),
                 1 => field.wrapping_sub(1),
@@ -344,7 +361,7 @@ fn rank(random: &Random, n: u64) -> u64 {
 }
 
 fn read_calls(tally: &mut Tally, random: &Random, input: &Input) {
-    let Input { words, len, polarity, choice, summary, inventory, spill } = input;
+    let Input { words, len, origin, polarity, choice, summary, inventory, spill } = input;
     let ours = ffi::Index { words, summary, inventory, spill };
     let model = model::Index { words, summary, inventory, spill };
     for _ in 0..3 {
@@ -361,14 +378,14 @@ fn read_calls(tally: &mut Tally, random: &Random, input: &Input) {
         tally.equal("dwell", input, ours.dwell(a, b), model.dwell(a, b));
     }
     let record = ffi::Record { words, len: *len, polarity: *polarity };
-    let model = model::check(words, *len, *polarity, choice, summary, inventory, spill);
+    let model = model::check(&model, *len, *origin, *polarity, choice);
     let call = if model == Ok(true) { "check, yes" } else { "check" };
-    tally.equal(call, input, record.check(choice, summary, inventory, spill), model);
+    tally.equal(call, input, record.check(*origin, choice, summary, inventory, spill), model);
 }
 
 /// The build over the damaged buffers: its cells, those past the counts, and all of them on a refusal.
 fn build_calls(tally: &mut Tally, random: &Random, input: &Input) {
-    let Input { words, len, polarity, inventory, spill, .. } = input;
+    let Input { words, len, origin, polarity, inventory, spill, .. } = input;
     let choice = &if random.one_in(4) { unlawful(random, near(random, input)) } else { input.choice };
     let record = ffi::Record { words, len: *len, polarity: *polarity };
     tally.equal("count", input, record.count(), model::count(words, *len, *polarity));
@@ -376,8 +393,8 @@ fn build_calls(tally: &mut Tally, random: &Random, input: &Input) {
     tally.equal("size", input, record.size(choice), model::size(words, *len, *polarity, choice));
 
     let (mut inv, mut spl) = (inventory.clone(), spill.clone());
-    let ours = record.build(choice, &mut inv, &mut spl).map(|summary| (summary, inv.clone(), spl.clone()));
-    let model = model::built(words, *len, *polarity, choice, inventory.len(), spill.len()).map(|built| {
+    let ours = record.build(*origin, choice, &mut inv, &mut spl).map(|summary| (summary, inv.clone(), spl.clone()));
+    let model = model::built(words, *len, *origin, *polarity, choice, inventory.len(), spill.len()).map(|built| {
         let past = &inventory[built.inventory.len()..];
         let past_spill = &spill[built.spill.len()..];
         (built.summary, [&built.inventory, past].concat(), [&built.spill, past_spill].concat())
@@ -390,26 +407,50 @@ fn build_calls(tally: &mut Tally, random: &Random, input: &Input) {
     }
 }
 
-/// Lists over foreign cells of small records, where the walk often goes another way than single jumps.
-fn foreign_lists(tally: &mut Tally, random: &Random) {
-    let mut input = Input {
-        words: Vec::new(),
-        len: 4,
+/// A record of one word under a summary, for lists.
+fn one_word(word: u64, summary: Summary, cells: &[u64]) -> Input {
+    Input {
+        words: vec![word],
+        len: summary.len,
+        origin: summary.origin,
         polarity: ONES,
         choice: default(),
-        summary: Summary { polarity: 0, len: 4, n: 2, l: 1, m: 0, s: 0, inventory: 3, spill: 0 },
-        inventory: Vec::new(),
+        summary,
+        inventory: cells.to_vec(),
         spill: Vec::new(),
-    };
-    // Worked by hand from document 02; single jumps give 1 and 1, 1 and 0, 0 and 0.
-    for (word, cells, expected) in
-        [(0b0010, [0, 0, 1], Err(10)), (0b111, [0, 1, 4], Ok((vec![1, 2], 1))), (1, [0, 0, 4], Ok((vec![0, 0], 1)))]
-    {
-        (input.words, input.inventory) = (vec![word], cells.to_vec());
-        let Input { words, summary, inventory, spill, .. } = &input;
-        assert_eq!(model::Index { words, summary, inventory, spill }.list(&[0, 1], 2), expected, "the model");
-        list_call(tally, &input, &List { ranks: vec![0, 1], places: 2 });
     }
+}
+
+/// Lists of all ranks, worked by hand from document 02.
+fn worked_lists(tally: &mut Tally) {
+    let foreign = Summary { polarity: 0, len: 4, n: 2, origin: 0, l: 1, m: 0, s: 0, inventory: 3, spill: 0 };
+    // Record A, whose bit 0 is sample 100; and from the first origin that is refused.
+    let a = Summary { len: 10, n: 4, origin: 100, inventory: 5, ..foreign };
+    let past = Summary { origin: MOST_SAMPLES - 9, ..a };
+    let cells = [1, 0x30000, 6, 0x30000, 10];
+    for (word, summary, cells, expected) in [
+        // Single jumps give 1 and 1, 1 and 0, 0 and 0.
+        (0b0010, foreign, &[0, 0, 1][..], Err(10)),
+        (0b111, foreign, &[0, 1, 4], Ok((vec![1, 2], 1))),
+        (1, foreign, &[0, 0, 4], Ok((vec![0, 0], 1))),
+        (0b111, Summary { origin: 100, ..foreign }, &[0, 1, 4], Ok((vec![101, 102], 1))),
+        (0x252, a, &cells, Ok((vec![101, 104, 106, 109], 1))),
+        (0x252, past, &cells, Err(14)),
+    ] {
+        let input = one_word(word, summary, cells);
+        let list = List { ranks: (0..summary.n).collect(), places: summary.n as usize };
+        let Input { words, summary, inventory, spill, .. } = &input;
+        let model = model::Index { words, summary, inventory, spill };
+        assert_eq!(model.list(&list.ranks, list.places), expected, "the model");
+        list_call(tally, &input, &list);
+    }
+    let model = model::Index { words: &[0x252], summary: &a, inventory: &cells, spill: &[] };
+    assert_eq!((model.hint(3), model.dwell(0, 3)), (Ok((109, 3)), Ok(8)), "the model");
+}
+
+/// Lists over foreign cells of small records, where the walk often goes another way than single jumps.
+fn foreign_lists(tally: &mut Tally, random: &Random, origins: &Random) {
+    let mut input = one_word(0, Summary::from([0; 9]), &[]);
     for _ in 0..60_000 {
         input.len = 1 + random.below(random.pick(&[20, 300, 3000]));
         input.words = random_words(random, input.len.div_ceil(64) as usize);
@@ -418,6 +459,7 @@ fn foreign_lists(tally: &mut Tally, random: &Random) {
         } else {
             stale(random, &mut input);
         }
+        renumber(origins, &mut input);
         list_call(tally, &input, &List::random(random, input.summary.n));
     }
 }
@@ -429,7 +471,7 @@ fn stale(random: &Random, input: &mut Input) {
     let (polarity, choice) = (random.below(2) as u32, power(l, m));
     let fewer = |word: &u64| if polarity == ONES { word & random.next() } else { word | random.next() };
     let words: Vec<u64> = input.words.iter().map(fewer).collect();
-    let built = model::built(&words, input.len, polarity, &choice, usize::MAX, usize::MAX);
+    let built = model::built(&words, input.len, 0, polarity, &choice, usize::MAX, usize::MAX);
     Built { summary: input.summary, inventory: input.inventory, spill: input.spill } = built.expect("a lawful choice");
     (0..random.below(4)).for_each(|_| bend_entries(random, input));
 }

@@ -22,12 +22,12 @@ mod c {
             kind: u32, value: u64, percentage: f64, log2: u32, inventory_len: *mut u64, spill_len: *mut u64,
         ) -> u32;
         pub fn edge_index_build(
-            words: *const u64, words_len: usize, len: u64, polarity: u32,
+            words: *const u64, words_len: usize, len: u64, origin: u64, polarity: u32,
             kind: u32, value: u64, percentage: f64, log2: u32,
             inventory: *mut u64, inventory_len: usize, spill: *mut u64, spill_len: usize, summary: *mut Summary,
         ) -> u32;
         pub fn edge_index_check(
-            words: *const u64, words_len: usize, len: u64, polarity: u32,
+            words: *const u64, words_len: usize, len: u64, origin: u64, polarity: u32,
             kind: u32, value: u64, percentage: f64, log2: u32, summary: *const Summary,
             inventory: *const u64, inventory_len: usize, spill: *const u64, spill_len: usize, yes: *mut u64,
         ) -> u32;
@@ -87,7 +87,7 @@ impl Record<'_> {
     }
 
     pub fn plan(&self, choice: &Choice) -> Result<Summary, u32> {
-        let mut summary = Summary::from([SENTINEL; 8]);
+        let mut summary = Summary::from([SENTINEL; 9]);
         let code = unsafe {
             c::edge_index_plan(
                 self.words.as_ptr(), self.words.len(), self.len, self.polarity,
@@ -108,11 +108,14 @@ impl Record<'_> {
         answer(code, [inventory, spill]).map(|[inventory, spill]| (inventory, spill))
     }
 
-    pub fn build(&self, choice: &Choice, inventory: &mut [u64], spill: &mut [u64]) -> Result<Summary, u32> {
-        let mut summary = Summary::from([SENTINEL; 8]);
+    /// Build, with the sample number of bit 0.
+    pub fn build(
+        &self, origin: u64, choice: &Choice, inventory: &mut [u64], spill: &mut [u64],
+    ) -> Result<Summary, u32> {
+        let mut summary = Summary::from([SENTINEL; 9]);
         let code = unsafe {
             c::edge_index_build(
-                self.words.as_ptr(), self.words.len(), self.len, self.polarity,
+                self.words.as_ptr(), self.words.len(), self.len, origin, self.polarity,
                 choice.kind, choice.value, choice.percentage, choice.log2,
                 inventory.as_mut_ptr(), inventory.len(), spill.as_mut_ptr(), spill.len(), &mut summary,
             )
@@ -120,11 +123,13 @@ impl Record<'_> {
         answer(code, summary.into()).map(Summary::from)
     }
 
-    pub fn check(&self, choice: &Choice, summary: &Summary, inventory: &[u64], spill: &[u64]) -> Result<bool, u32> {
+    pub fn check(
+        &self, origin: u64, choice: &Choice, summary: &Summary, inventory: &[u64], spill: &[u64],
+    ) -> Result<bool, u32> {
         let mut yes = SENTINEL;
         let code = unsafe {
             c::edge_index_check(
-                self.words.as_ptr(), self.words.len(), self.len, self.polarity,
+                self.words.as_ptr(), self.words.len(), self.len, origin, self.polarity,
                 choice.kind, choice.value, choice.percentage, choice.log2, summary,
                 inventory.as_ptr(), inventory.len(), spill.as_ptr(), spill.len(), &mut yes,
             )

@@ -1,6 +1,6 @@
 //! Document 01 as a program: plain whole numbers (u128, i128), no care for speed, each step under the sentence it
 //! follows. Written from the document alone, not from the Rust and not from the library that it judges. The list is
-//! document 02's W-201.
+//! document 02's W-201, the origin its W-202.
 
 /// A call's answer, or the number of its refusal in document 01's table.
 pub type Answer<T> = Result<T, u32>;
@@ -28,13 +28,15 @@ pub struct Choice {
     pub log2: u32,
 }
 
-/// "polarity, `len`, N, L, M, S, inventory cell count, spill cell count", laid out as in C.
+/// "polarity, `len`, N, L, M, S, inventory cell count, spill cell count", and the origin, "the sample number of bit 0";
+/// laid out as in C.
 #[repr(C)]
 #[derive(Clone, Copy, Debug, PartialEq, Eq)]
 pub struct Summary {
     pub polarity: u64,
     pub len: u64,
     pub n: u64,
+    pub origin: u64,
     pub l: u64,
     pub m: u64,
     pub s: u64,
@@ -42,15 +44,15 @@ pub struct Summary {
     pub spill: u64,
 }
 
-impl From<[u64; 8]> for Summary {
-    fn from([polarity, len, n, l, m, s, inventory, spill]: [u64; 8]) -> Self {
-        Summary { polarity, len, n, l, m, s, inventory, spill }
+impl From<[u64; 9]> for Summary {
+    fn from([polarity, len, n, origin, l, m, s, inventory, spill]: [u64; 9]) -> Self {
+        Summary { polarity, len, n, origin, l, m, s, inventory, spill }
     }
 }
 
-impl From<Summary> for [u64; 8] {
+impl From<Summary> for [u64; 9] {
     fn from(s: Summary) -> Self {
-        [s.polarity, s.len, s.n, s.l, s.m, s.s, s.inventory, s.spill]
+        [s.polarity, s.len, s.n, s.origin, s.l, s.m, s.s, s.inventory, s.spill]
     }
 }
 
@@ -109,10 +111,14 @@ fn seek(words: &[u64], len: u128, polarity: u32, mark: u128, between: u128) -> O
     None
 }
 
-/// Refusals 1 and 2: "`len` over 2^62 - 1", "fewer than ceil(`len` / 64) words".
-fn record_refusal(words: &[u64], len: u64) -> Answer<()> {
+/// Refusals 1, 14 and 2: "`len` over 2^62 - 1"; "origin plus `len` over 2^62 - 1 as whole numbers, right after 1";
+/// "fewer than ceil(`len` / 64) words". "count, plan and size never say 14": to them the origin is 0.
+fn record_refusal(words: &[u64], len: u64, origin: u64) -> Answer<()> {
     if len as u128 > pow2(62) - 1 {
         return Err(1);
+    }
+    if origin as u128 + len as u128 > pow2(62) - 1 {
+        return Err(14);
     }
     if (words.len() as u128) < (len as u128).div_ceil(64) {
         return Err(2);
@@ -127,7 +133,7 @@ fn polarity_code(polarity: u64) -> Answer<u32> {
 /// "Count gives N"; order "count 1, 2".
 pub fn count(words: &[u64], len: u64, polarity: u32) -> Answer<u64> {
     polarity_code(polarity as u64)?;
-    record_refusal(words, len)?;
+    record_refusal(words, len, 0)?;
     Ok(positions(words, len as u128, polarity).len() as u64)
 }
 
@@ -209,18 +215,23 @@ fn choice_refusal(choice: &Choice) -> Answer<()> {
     Ok(())
 }
 
-/// "plan the summary up to S", refused as numbered "to 5"; the counts are 0.
+/// "plan the summary up to S", refused as numbered "to 5"; the counts are 0, and so is the origin.
 pub fn plan(words: &[u64], len: u64, polarity: u32, choice: &Choice) -> Answer<Summary> {
+    planned(words, len, 0, polarity, choice)
+}
+
+/// The plan that build, which takes an origin, goes on from.
+fn planned(words: &[u64], len: u64, origin: u64, polarity: u32, choice: &Choice) -> Answer<Summary> {
     polarity_code(polarity as u64)?;
     if choice.kind > FIXED {
         return Err(BAD_CODE);
     }
-    record_refusal(words, len)?;
+    record_refusal(words, len, origin)?;
     choice_refusal(choice)?;
     let n = count(words, len, polarity)?;
     let (l, m, s) = parameters(n as u128, len as u128, choice);
     let (l, m, s) = (l as u64, m as u64, s as u64);
-    Ok(Summary { polarity: polarity as u64, len, n, l, m, s, inventory: 0, spill: 0 })
+    Ok(Summary { polarity: polarity as u64, len, n, origin, l, m, s, inventory: 0, spill: 0 })
 }
 
 // ----------------------------------------------------------------------------------------------- the build
@@ -295,9 +306,9 @@ fn entry(found: &[u128], plan: &Summary, e: u128) -> Entry {
     Entry { start, kind, marks, spilled: spilled(kind, h, m) }
 }
 
-/// The plan, the selected positions, and the two counts; refusals 1 to 5, and 6 for a count "over 2^64 - 1".
-fn sized(words: &[u64], len: u64, polarity: u32, choice: &Choice) -> Answer<(Summary, Vec<u128>)> {
-    let mut summary = plan(words, len, polarity, choice)?;
+/// The plan, the selected positions, and the two counts; the plan's refusals, and 6 for a count "over 2^64 - 1".
+fn sized(words: &[u64], len: u64, origin: u64, polarity: u32, choice: &Choice) -> Answer<(Summary, Vec<u128>)> {
+    let mut summary = planned(words, len, origin, polarity, choice)?;
     let cells = inventory_count(summary.n as u128, summary.l as u128, summary.m as u128);
     if cells > pow2(64) - 1 {
         return Err(6);
@@ -311,19 +322,20 @@ fn sized(words: &[u64], len: u64, polarity: u32, choice: &Choice) -> Answer<(Sum
 
 /// "size the two cell counts", refused as numbered "to 6".
 pub fn size(words: &[u64], len: u64, polarity: u32, choice: &Choice) -> Answer<(u64, u64)> {
-    sized(words, len, polarity, choice).map(|(s, _)| (s.inventory, s.spill))
+    sized(words, len, 0, polarity, choice).map(|(s, _)| (s.inventory, s.spill))
 }
 
-/// What build writes into buffers of the given lengths; refused as numbered, 1 to 7.
+/// What build writes into buffers of the given lengths; refused as numbered, 1 to 7, with 14 right after 1.
 pub fn built(
     words: &[u64],
     len: u64,
+    origin: u64,
     polarity: u32,
     choice: &Choice,
     inv_len: usize,
     spill_len: usize,
 ) -> Answer<Built> {
-    let (summary, found) = sized(words, len, polarity, choice)?;
+    let (summary, found) = sized(words, len, origin, polarity, choice)?;
     if (inv_len as u64) < summary.inventory {
         return Err(6);
     }
@@ -377,19 +389,13 @@ pub fn built(
     Ok(Built { summary, inventory, spill })
 }
 
-/// Check: refused as numbered, 1 to 7; "measures 6 and 7 by the counts of record and choice; any other summary is a
-/// no"; yes where the cells within the counts are those of the build, "Cells past the counts ... check passes over them".
-pub fn check(
-    words: &[u64],
-    len: u64,
-    polarity: u32,
-    choice: &Choice,
-    summary: &Summary,
-    inventory: &[u64],
-    spill: &[u64],
-) -> Answer<bool> {
+/// Check: refused as build is; "measures 6 and 7 by the counts of record and choice; any other summary is a no", one
+/// with another origin too; yes where the cells within the counts are those of the build, "Cells past the counts ...
+/// check passes over them".
+pub fn check(index: &Index, len: u64, origin: u64, polarity: u32, choice: &Choice) -> Answer<bool> {
+    let &Index { words, summary, inventory, spill } = index;
     polarity_code(summary.polarity)?;
-    let built = built(words, len, polarity, choice, inventory.len(), spill.len())?;
+    let built = built(words, len, origin, polarity, choice, inventory.len(), spill.len())?;
     Ok(same(&built, summary, inventory, spill))
 }
 
@@ -422,11 +428,11 @@ struct Mark {
 }
 
 impl Index<'_> {
-    /// Order: "1, 2, 9, 6, 7, 8, 10"; this goes to 8.
+    /// Order: "1, 2, 9, 6, 7, 8, 10", with 14 right after 1; this goes to 8.
     fn refusal(&self, ranks: &[u64]) -> Answer<()> {
         let s = self.summary;
         polarity_code(s.polarity)?;
-        record_refusal(self.words, s.len)?;
+        record_refusal(self.words, s.len, s.origin)?;
         // "summary: N > `len`, L > 63, M > 53, S or inventory count not by the rules"
         if s.n > s.len || s.l > 63 || s.m > 53 {
             return Err(9);
@@ -544,17 +550,22 @@ impl Index<'_> {
         seek(self.words, self.summary.len as u128, self.summary.polarity as u32, start, between).ok_or(10)
     }
 
+    /// "Jump, hint and list answer with origin plus position"; up to here positions count from bit 0.
+    fn sample(&self, position: u128) -> u64 {
+        (self.summary.origin as u128 + position) as u64
+    }
+
     /// Jump.
     pub fn select(&self, rank: u64) -> Answer<u64> {
         self.refusal(&[rank])?;
-        self.position(rank).map(|p| p as u64)
+        self.position(rank).map(|p| self.sample(p))
     }
 
     /// "Hint stops before step 7 with the mark and rank r - (s mod 2^q)."
     pub fn hint(&self, rank: u64) -> Answer<(u64, u64)> {
         self.refusal(&[rank])?;
         let mark = self.mark(rank)?;
-        Ok((mark.mark as u64, rank - mark.between as u64))
+        Ok((self.sample(mark.mark), rank - mark.between as u64))
     }
 
     /// "Store answers with the cells where a rank's mark is recorded"; it "refuses exactly where hint does".
@@ -576,7 +587,7 @@ impl Index<'_> {
         u64::try_from(to - from).map_err(|_| 10)
     }
 
-    /// List, with so many places for its answers: the positions and the total of words read.
+    /// List, with so many places for its answers: the sample numbers and the total of words read.
     pub fn list(&self, ranks: &[u64], places: usize) -> Answer<(Vec<u64>, u64)> {
         // "12, ranks that fall; 13, too few places for answers; in that order, after 7 and before 8"
         self.refusal(&[])?;
@@ -596,7 +607,7 @@ impl Index<'_> {
             let mark = self.mark(rank)?;
             // "a U64 rank reads none"
             if mark.kind == Kind::U64 {
-                found.push(mark.mark as u64);
+                found.push(self.sample(mark.mark));
                 continue;
             }
             // "the reading starts at the later of its mark and the last bit"; "From the mark it passes s mod 2^q selected
@@ -610,7 +621,7 @@ impl Index<'_> {
             let in_hand = last.is_some_and(|(bit, _)| bit / 64 == start / 64);
             total += bit / 64 - start / 64 + 1 - in_hand as u128;
             last = Some((bit, rank));
-            found.push(bit as u64);
+            found.push(self.sample(bit));
         }
         Ok((found, total as u64))
     }

@@ -1,14 +1,14 @@
 -- What passing the tests shows of a record, and what a count says of it.
 use mathlib.Core.List.{List}
 use mathlib.Core.Path.{_≡_}
-use Prim.Native.Nat.{ℕ, _-_, _^_}
+use Prim.Native.Nat.{ℕ, _+_, _-_, _^_}
 use native.Mathlib.Omega.{arith}
 use lib.ListN.{length}
 use borrow.Author.Tests.{le-ltb, ltb-false}
 use Rattle.rank_sel.specs.Numbers.{ceilDiv}
 use Rattle.rank_sel.specs.Outcome.{answer, NoneOf}
 use Rattle.rank_sel.proofs.Outcome.{answer-is, passed-all}
-use Rattle.bit_record.specs.Record.{numSelected, ofRecord, countOf, Admitted}
+use Rattle.bit_record.specs.Record.{numSelected, ofRecord, ofRecordFrom, countOf, Admitted, AdmittedFrom}
 use Rattle.bit_record.specs.declared.Polarity.{Polarity}
 
 -- neither 1 nor 2 turns the record down
@@ -20,6 +20,18 @@ admitted ws len h = record {
 
 pub admitted-none : (ws : List ℕ) (len : ℕ) → Admitted ws len → NoneOf (ofRecord ws len)
 admitted-none ws len a = (le-ltb (2 ^ 62 - 1) len (omega (arith, a .short)), (le-ltb (length ws) (ceilDiv len 64) (a .held), tt))
+
+-- nor does 14
+pub admitted-from : (ws : List ℕ) (len origin : ℕ) → NoneOf (ofRecordFrom ws len origin) → AdmittedFrom ws len origin
+admitted-from ws len origin h = record {
+  admitted = admitted ws len (h .0, h .1 .1);
+  numbered = omega (arith, ltb-false (2 ^ 62 - 1) (origin + len) (h .1 .0));
+}
+
+pub admitted-from-none : (ws : List ℕ) (len origin : ℕ) → AdmittedFrom ws len origin → NoneOf (ofRecordFrom ws len origin)
+admitted-from-none ws len origin a =
+    let n = admitted-none ws len (a .admitted) in
+    (n .0, (le-ltb (2 ^ 62 - 1) (origin + len) (omega (arith, a .numbered)), n .1))
 
 -- where a count answers, it is N
 pub counted : (ws : List ℕ) (len : ℕ) (pol : Polarity) (n : ℕ) → countOf ws len pol ≡ answer n

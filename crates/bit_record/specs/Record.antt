@@ -37,15 +37,26 @@ numSelected pol ws len = rank (selected pol ws len) len
 abbrev pub bitOf : List ℕ → ℕ → Polarity → ℕ → ℕ
 bitOf ws len pol = select (selected pol ws len) len
 
--- the conditions of refusals 1 and 2
+-- the sample number of a position, where bit 0 is sample number `origin` (document 02, W-202)
+abbrev pub sampleAt : ℕ → ℕ → ℕ
+sampleAt origin p = origin + p
+
+-- the conditions of refusals 1, 14 and 2
 abbrev pub lenTooLarge : ℕ → Bool
 lenTooLarge len = ltb (2 ^ 62 - 1) len
+
+abbrev pub originTooLarge : ℕ → ℕ → Bool
+originTooLarge origin len = ltb (2 ^ 62 - 1) (origin + len)
 
 abbrev pub tooFewWords : List ℕ → ℕ → Bool
 tooFewWords ws len = ltb (length ws) (ceilDiv len 64)
 
 abbrev pub ofRecord : List ℕ → ℕ → Conditions
 ofRecord ws len = (lenTooLarge len, 1) ∷ (tooFewWords ws len, 2) ∷ []
+
+-- where an origin is handed in, or a summary, which has one
+abbrev pub ofRecordFrom : List ℕ → ℕ → ℕ → Conditions
+ofRecordFrom ws len origin = (lenTooLarge len, 1) ∷ (originTooLarge origin len, 14) ∷ (tooFewWords ws len, 2) ∷ []
 
 unfoldable pub countOf : List ℕ → ℕ → Polarity → Outcome ℕ
 countOf ws len pol = refuseBy (ofRecord ws len) (answer (numSelected pol ws len))
@@ -68,6 +79,11 @@ pub record Finds (f : ℕ → Bool) (n x k : ℕ) (r : RecordSeek) : Type 0 wher
 pub record Admitted (ws : List ℕ) (len : ℕ) : Type 0 where
   pub short : len < 2 ^ 62
   pub held : ceilDiv len 64 ≤ length ws
+
+-- nor by 14: each of its positions has a sample number
+pub record AdmittedFrom (ws : List ℕ) (len origin : ℕ) : Type 0 where
+  pub admitted : Admitted ws len
+  pub numbered : sampleAt origin len < 2 ^ 62
 
 -- n is the count of the m words from number i on, in every record that has them whole
 pub record CountsWords (pol : Polarity) (ws : List ℕ) (i m n : ℕ) : Type 0 where

@@ -4,7 +4,7 @@ ghost use Prim.Native.Nat.{_+_, _-_, _*_, _/_, _^_, _≤_, _<_};
 ghost use lib.ListN.{length};
 ghost use Rattle.rank_sel.specs.Outcome.{answered, testBy, tested as testedAs};
 ghost use Rattle.select_in_word.specs.Holds.{Holds};
-ghost use Rattle.bit_record.specs.Record.{Admitted, CountsWords, Finds, bitAt, chosen, complemented, countOf, ofRecord, selected};
+ghost use Rattle.bit_record.specs.Record.{Admitted, CountsWords, Finds, bitAt, chosen, complemented, countOf, ofRecord, ofRecordFrom, sampleAt, selected};
 use rank_sel::Answer;
 use rank_sel::Refusal;
 use rank_sel::Tested;
@@ -28,17 +28,42 @@ pub enum RecordSeek {
     Nowhere,
 }
 
+// The most that a length may be, and a length after an origin.
+const MAX_LEN: u64 = 0x3fff_ffff_ffff_ffff;
+
 // Refusals 1 and 2: the one test of a record.
 pub fn test_record(words: &[u64], len: u64) -> Tested
     ensures { λ r. ⌜ testedAs r ≡ testBy (ofRecord (now (words .entry)) len) ⌝ }
 {
-    if len > 0x3fff_ffff_ffff_ffff {
+    if len > MAX_LEN {
         return Tested::Refused(Refusal::LenTooLarge);
     }
     if (words.len() as u64) < (len + 63) / 64 {
         return Tested::Refused(Refusal::TooFewWords);
     }
     Tested::Passed
+}
+
+// Refusals 1, 14 and 2: the one test of a record whose bit 0 is sample number `origin`. The sum may pass 2^64: it is not
+// reckoned.
+pub fn test_record_from(words: &[u64], len: u64, origin: u64) -> Tested
+    ensures { λ r. ⌜ testedAs r ≡ testBy (ofRecordFrom (now (words .entry)) len origin) ⌝ }
+{
+    if len > MAX_LEN {
+        return Tested::Refused(Refusal::LenTooLarge);
+    }
+    if origin > MAX_LEN - len {
+        return Tested::Refused(Refusal::OriginTooLarge);
+    }
+    test_record(words, len)
+}
+
+// The one place where an origin is added to a position.
+pub fn sample_at(origin: u64, position: u64) -> u64
+    requires { ⌜ sampleAt origin position < 2 ^ 62 ⌝ }
+    ensures { λ r. ⌜ r ≡ sampleAt origin position ⌝ }
+{
+    origin + position
 }
 
 // The word whose ones are the bits that the polarity selects.

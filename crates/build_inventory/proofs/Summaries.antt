@@ -41,9 +41,11 @@ pub summary-is : (t u : Summary) → sameSummary t u ≡ true → t ≡ u
 unfolding sameSummary
 summary-is t u e =
     let s = and-eq-true-iff _ (eqb (t .«spill_len») (u .«spill_len»)) .0 e in
-    let v = and-eq-true-iff (samePlan (t .plan) (u .plan)) (eqb (t .«inventory_len») (u .«inventory_len»)) .0 (s .0) in
+    let v = and-eq-true-iff _ (eqb (t .«inventory_len») (u .«inventory_len»)) .0 (s .0) in
+    let o = and-eq-true-iff (samePlan (t .plan) (u .plan)) (eqb (t .origin) (u .origin)) .0 (v .0) in
     λ i. record {
-      plan = plan-is (t .plan) (u .plan) (v .0) i;
+      plan = plan-is (t .plan) (u .plan) (o .0) i;
+      origin = eqb-true (t .origin) (u .origin) (o .1) i;
       «inventory_len» = eqb-true (t .«inventory_len») (u .«inventory_len») (v .1) i;
       «spill_len» = eqb-true (t .«spill_len») (u .«spill_len») (s .1) i;
     }
@@ -58,6 +60,7 @@ summary-same t =
       eq-eqb (L (t .plan)) _ refl,
       eq-eqb (M (t .plan)) _ refl,
       eq-eqb (S (t .plan)) _ refl,
+      eq-eqb (t .origin) _ refl,
       eq-eqb (t .«inventory_len») _ refl,
       eq-eqb (t .«spill_len») _ refl,
     )

@@ -6,7 +6,8 @@ use mathlib.Core.Path.{_≡_}
 use Prim.Native.Nat.{ℕ, _-_, _^_}
 use lib.Dec.{eqb, ltb}
 use lib.ListN.{length, drop}
-use Rattle.rank_sel.specs.Outcome.{Outcome, answer, refused, numberOf, refuseIf, andThen}
+use Rattle.rank_sel.specs.Outcome.{Outcome, answer, refused, numberOf, refuseIf, refuseBy, andThen}
+use Rattle.bit_record.specs.Record.{ofRecordFrom}
 use Rattle.bit_record.specs.declared.Polarity.{Polarity}
 use Rattle.bit_record.specs.declared.Polarity.the-variants.{Ones, Zeros}
 use Rattle.spacing.specs.Spacing.{N, L, M, S, planOf}
@@ -50,11 +51,14 @@ unfoldable pub sizeOf : List ℕ → ℕ → Polarity → Choice → Outcome Siz
 sizeOf ws len pol choice = andThen (planOf ws len pol choice) (λ p. fitted ws p (2 ^ 64 - 1))
 
 -- ---- build, where so many cells are lent for the inventory and for the spill: 6 and then 7 by the sizes of the plan's index
-unfoldable pub buildFrom : List ℕ → Parameters → ℕ → ℕ → Outcome Summary
-buildFrom ws p cells spill = andThen (fitted ws p cells) (λ s. refuseIf (ltb spill (s .spill)) 7 (answer (summaryOf (posIn ws p) p)))
+unfoldable pub buildFrom : List ℕ → ℕ → Parameters → ℕ → ℕ → Outcome Summary
+buildFrom ws origin p cells spill =
+    andThen (fitted ws p cells) (λ s. refuseIf (ltb spill (s .spill)) 7 (answer (summaryOf (posIn ws p) p origin)))
 
-unfoldable pub buildOf : List ℕ → ℕ → Polarity → Choice → ℕ → ℕ → Outcome Summary
-buildOf ws len pol choice cells spill = andThen (planOf ws len pol choice) (λ p. buildFrom ws p cells spill)
+-- 1, 14 and 2 of a record from an origin on, then as plan says, then 6 and 7
+unfoldable pub buildOf : List ℕ → ℕ → ℕ → Polarity → Choice → ℕ → ℕ → Outcome Summary
+buildOf ws len origin pol choice cells spill =
+    andThen (refuseBy (ofRecordFrom ws len origin) (planOf ws len pol choice)) (λ p. buildFrom ws origin p cells spill)
 
 -- the index stands before what stood past it; on a refusal all is as it was
 abbrev pub inventoryAfter : List ℕ → List ℕ → Outcome Summary → List ℕ
@@ -88,9 +92,13 @@ samePlan p q =
     && eqb (S p) (S q)
 
 unfoldable pub sameSummary : Summary → Summary → Bool
-sameSummary t u = samePlan (t .plan) (u .plan) && eqb (t .«inventory_len») (u .«inventory_len») && eqb (t .«spill_len») (u .«spill_len»)
+sameSummary t u =
+    samePlan (t .plan) (u .plan)
+    && eqb (t .origin) (u .origin)
+    && eqb (t .«inventory_len») (u .«inventory_len»)
+    && eqb (t .«spill_len») (u .«spill_len»)
 
-unfoldable pub checkOf : List ℕ → ℕ → Polarity → Choice → Summary → List ℕ → List ℕ → Outcome Bool
-checkOf ws len pol choice t inv sp =
-    andThen (buildOf ws len pol choice (length inv) (length sp))
+unfoldable pub checkOf : List ℕ → ℕ → ℕ → Polarity → Choice → Summary → List ℕ → List ℕ → Outcome Bool
+checkOf ws len origin pol choice t inv sp =
+    andThen (buildOf ws len origin pol choice (length inv) (length sp))
     (λ u. answer (sameSummary t u && sameIndex (posIn ws (u .plan)) (u .plan) inv sp))

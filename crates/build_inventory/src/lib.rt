@@ -12,6 +12,7 @@ mod entry;
 mod index;
 
 use bit_record::Polarity;
+use bit_record::test_record_from;
 use index::fill;
 use index::inventory_count;
 use index::same_index;
@@ -19,6 +20,8 @@ use index::spill_count;
 use inventory::Summary;
 use rank_sel::Answer;
 use rank_sel::Refusal;
+use rank_sel::Tested;
+use rank_sel::reason;
 use spacing::Choice;
 use spacing::Parameters;
 use spacing::Planned;
@@ -63,9 +66,9 @@ pub fn size(words: &[u64], len: u64, polarity: Polarity, choice: Choice) -> Size
 }
 
 // The summary of a plan's index, where so many cells are lent for it.
-fn admit_plan(words: &[u64], plan: Parameters, cells: u64, spill_cells: u64) -> Built
+fn admit_plan(words: &[u64], origin: u64, plan: Parameters, cells: u64, spill_cells: u64) -> Built
     requires { ⌜ PlanOf (now words) plan ⌝ }
-    ensures { λ r. ⌜ built r ≡ buildFrom (now (words .entry)) plan cells «spill_cells» ⌝ }
+    ensures { λ r. ⌜ built r ≡ buildFrom (now (words .entry)) origin plan cells «spill_cells» ⌝ }
 {
     match fit(words, plan, cells) {
         Sized::Cells(inventory_len, spill_len) => {
@@ -74,6 +77,7 @@ fn admit_plan(words: &[u64], plan: Parameters, cells: u64, spill_cells: u64) -> 
             }
             Built::Summary(Summary {
                 plan,
+                origin,
                 inventory_len,
                 spill_len,
             })
@@ -86,33 +90,40 @@ fn admit_plan(words: &[u64], plan: Parameters, cells: u64, spill_cells: u64) -> 
 fn admit(
     words: &[u64],
     len: u64,
+    origin: u64,
     polarity: Polarity,
     choice: Choice,
     cells: u64,
     spill_cells: u64,
 ) -> Built
-    ensures { λ r. ⌜ built r ≡ buildOf (now (words .entry)) len polarity choice cells «spill_cells» ⌝ }
+    ensures { λ r. ⌜ built r ≡ buildOf (now (words .entry)) len origin polarity choice cells «spill_cells» ⌝ }
 {
+    let tested = test_record_from(words, len, origin);
+    let Tested::Passed = tested else {
+        return Built::Refused(reason(tested));
+    };
     match plan(words, len, polarity, choice) {
-        Planned::Plan(plan) => admit_plan(words, plan, cells, spill_cells),
+        Planned::Plan(plan) => admit_plan(words, origin, plan, cells, spill_cells),
         Planned::Refused(refusal) => Built::Refused(refusal),
     }
 }
 
-// Writes the index of the record into the lent cells.
+// Writes the index of the record, whose bit 0 is sample number `origin`, into the lent cells.
 pub fn build(
     words: &[u64],
     len: u64,
+    origin: u64,
     polarity: Polarity,
     choice: Choice,
     inventory: &mut [u64],
     spill: &mut [u64],
 ) -> Built
-    ensures { λ r. ⌜ BuiltAs (now (words .entry)) (buildOf (now (words .entry)) len polarity choice (length (now (inventory .entry))) (length (now (spill .entry)))) (now (inventory .entry)) (now (inventory .exit)) (now (spill .entry)) (now (spill .exit)) r ⌝ }
+    ensures { λ r. ⌜ BuiltAs (now (words .entry)) (buildOf (now (words .entry)) len origin polarity choice (length (now (inventory .entry))) (length (now (spill .entry)))) (now (inventory .entry)) (now (inventory .exit)) (now (spill .entry)) (now (spill .exit)) r ⌝ }
 {
     match admit(
         words,
         len,
+        origin,
         polarity,
         choice,
         inventory.len() as u64,
@@ -160,7 +171,10 @@ fn same_summary(a: Summary, b: Summary) -> bool
 {
     let p = a.plan;
     let q = b.plan;
-    same_plan(p, q) && a.inventory_len == b.inventory_len && a.spill_len == b.spill_len
+    same_plan(p, q)
+        && a.origin == b.origin
+        && a.inventory_len == b.inventory_len
+        && a.spill_len == b.spill_len
 }
 
 // Whether this summary and these cells are those that the build with the summary `right` writes.
@@ -188,17 +202,19 @@ fn compare(
 pub fn check(
     words: &[u64],
     len: u64,
+    origin: u64,
     polarity: Polarity,
     choice: Choice,
     summary: Summary,
     inventory: &[u64],
     spill: &[u64],
 ) -> Checked
-    ensures { λ r. ⌜ checked r ≡ checkOf (now (words .entry)) len polarity choice summary (now (inventory .entry)) (now (spill .entry)) ⌝ }
+    ensures { λ r. ⌜ checked r ≡ checkOf (now (words .entry)) len origin polarity choice summary (now (inventory .entry)) (now (spill .entry)) ⌝ }
 {
     match admit(
         words,
         len,
+        origin,
         polarity,
         choice,
         inventory.len() as u64,

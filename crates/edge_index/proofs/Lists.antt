@@ -1,7 +1,7 @@
 -- A list on a sound index: each reading starts at the bit of a rank not above its own, and not before its mark; so it ends
 -- at its own bit, and reads no more words than the single jump.
 use mathlib.Core.Bool.{Bool, true, false}
-use mathlib.Core.List.{List, [], _∷_, _++_, map, append-assoc, append-nil}
+use mathlib.Core.List.{List, [], _∷_, _++_, map, append-assoc, append-nil, map-map}
 use mathlib.Core.Option.{Option, none, some}
 use mathlib.Core.Path.{_≡_, refl, sym, ap, ap₂, _∙_}
 use Prim.Native.Nat.{ℕ, zero, suc, _+_, _-_, _≤_, _<_}
@@ -13,7 +13,7 @@ use Rattle.rank_sel.specs.Outcome.{answer}
 use Rattle.rank_sel.specs.Rank.{rank}
 use Rattle.rank_sel.specs.Seek.{seek, select}
 use Rattle.rank_sel.proofs.Select.{select-seek}
-use Rattle.bit_record.specs.Record.{selected}
+use Rattle.bit_record.specs.Record.{selected, sampleAt}
 use Rattle.spacing.specs.Spacing.{N}
 use Rattle.inventory.specs.declared.summary.Summary.{Summary}
 use Rattle.read_inventory.specs.Read.{Mark, markOfRank, positionOf}
@@ -158,11 +158,17 @@ module _ {ws : List ℕ} {t : Summary} {inv sp : List ℕ} {f : ℕ → Bool} {l
   -- all ranks of a list, from the start
   pub record Lists (ranks : List ℕ) (x : Listed) : Type 0 where
     pub found : walkOf ws t inv sp ranks ≡ answer x
-    pub positions : x .positions ≡ map (select f len) ranks
+    pub samples : x .samples ≡ map (λ r. sampleAt (t .origin) (select f len r)) ranks
     pub fewer : x .total ≤ sumOver (singleWords ws t inv sp) ranks
 
   pub walk-lists : (ranks : List ℕ) → falls ranks ≡ false → anyTooLarge (N (t .plan)) ranks ≡ false → (x : Listed) × Lists ranks x
   unfolding walkOf
   walk-lists ranks a b =
-      let v = walk-right ranks start 0 tt a b in
-      (listed (v .0), record { found = rw (v .1 .found); positions = v .1 .positions; fewer = omega (arith, v .1 .fewer) })
+      let v = walk-right ranks start 0 tt a b in (
+        listed (t .origin) (v .0),
+        record {
+          found = rw (v .1 .found);
+          samples = ap (map (sampleAt (t .origin))) (v .1 .positions) ∙ map-map _ _ ranks;
+          fewer = omega (arith, v .1 .fewer);
+        },
+      )

@@ -8,8 +8,8 @@ use lib.Dec.{ltb}
 use lib.ListN.{length, drop}
 use Rattle.rank_sel.specs.Outcome.{Outcome, answer, refused, refuseIf, Conditions, refuseBy, andThen}
 use Rattle.rank_sel.specs.Seek.{select}
-use Rattle.rank_sel.proofs.Outcome.{byOutcome, by-then}
-use Rattle.bit_record.specs.Record.{SameRecord}
+use Rattle.rank_sel.proofs.Outcome.{byOutcome, by-then, passed-all}
+use Rattle.bit_record.specs.Record.{ofRecordFrom, SameRecord}
 use Rattle.bit_record.specs.declared.Polarity.{Polarity}
 use Rattle.bit_record.proofs.Same.{selected-same, words-same, count-same}
 use Rattle.spacing.specs.Spacing.{N, planOf}
@@ -22,8 +22,8 @@ use Rattle.build_inventory.specs.Build.{Sizes, fitted, sizeOf, buildFrom, build
 use Rattle.build_inventory.specs.Compare.{sameIndex}
 use Rattle.build_inventory.specs.Positions.{posIn}
 use Rattle.build_inventory.proofs.Outcomes.{admission}
-use Rattle.read_inventory.specs.Jump.{selectOf, hintOf, dwellAt, dwellOf, storeOf, subinventoryOf}
-use Rattle.read_inventory.specs.Read.{hintAt, positionOf}
+use Rattle.read_inventory.specs.Jump.{sampleOf, selectOf, hintSample, hintOf, dwellAt, dwellOf, storeOf, subinventoryOf}
+use Rattle.read_inventory.specs.Read.{positionOf}
 use Rattle.read_inventory.specs.Tests.{ofIndex, ofRank, ofRanks}
 use Rattle.select_list.specs.List.{Walk, start, after, walk, ofList, walkOf, listOf}
 use Rattle.select_list.specs.Step.{Reached, stepOf}
@@ -61,58 +61,60 @@ module _ (len : ℕ) (ws vs : List ℕ) (s : SameRecord len ws vs) where
   fit f p most =
       refuseIf (ltb most (inventoryLenOf p)) 6 (answer (record { inventory = inventoryLenOf p; spill = spillStart f p (entriesOf p) }))
 
-  -- what follows a plan depends on the words by the bit of each rank
-  then-same : {A : Type 0} (pol : Polarity) (choice : Choice) (go : (ℕ → ℕ) → Parameters → Outcome A)
-      → andThen (planOf ws len pol choice) (λ p. go (posIn ws p) p) ≡ andThen (planOf vs len pol choice) (λ p. go (posIn vs p) p)
-  then-same {A} pol choice go = at (planOf ws len pol choice) refl (plan-same pol choice)
-    where
-      at : (o : Outcome Parameters) → planOf ws len pol choice ≡ o → planOf ws len pol choice ≡ planOf vs len pol choice
-          → andThen (planOf ws len pol choice) (λ p. go (posIn ws p) p) ≡ andThen (planOf vs len pol choice) (λ p. go (posIn vs p) p)
-      at (answer p) e d = rw (sym d ∙ e, e) (ap (λ (f : ℕ → ℕ). go f p) (pos-same p (plan-facts ws len pol choice p e .length)))
-      at (refused n) e d = rw (sym d ∙ e, e)
+  -- what follows a plan of the record depends on the words by the bit of each rank
+  then-same : {A : Type 0} (x y : Outcome Parameters) → x ≡ y → ((p : Parameters) → x ≡ answer p → p .len ≡ len)
+      → (go : (ℕ → ℕ) → Parameters → Outcome A) → andThen x (λ p. go (posIn ws p) p) ≡ andThen y (λ p. go (posIn vs p) p)
+  then-same (answer p) y e l go = rw (← e) (ap (λ (f : ℕ → ℕ). go f p) (pos-same p (l p refl)))
+  then-same (refused n) y e l go = rw (← e)
 
-  build-same : (pol : Polarity) (choice : Choice) (cells spill : ℕ)
-      → buildOf ws len pol choice cells spill ≡ buildOf vs len pol choice cells spill
+  plan-len : (pol : Polarity) (choice : Choice) (p : Parameters) → planOf ws len pol choice ≡ answer p → p .len ≡ len
+  plan-len pol choice p e = plan-facts ws len pol choice p e .length
+
+  build-same : (origin : ℕ) (pol : Polarity) (choice : Choice) (cells spill : ℕ)
+      → buildOf ws len origin pol choice cells spill ≡ buildOf vs len origin pol choice cells spill
   unfolding buildOf buildFrom fitted
-  build-same pol choice cells spill = then-same pol choice
-      (λ f p. andThen (fit f p cells) (λ s. refuseIf (ltb spill (s .spill)) 7 (answer (summaryOf f p))))
+  build-same origin pol choice cells spill = then-same
+      (refuseBy (ofRecordFrom ws len origin) (planOf ws len pol choice)) (refuseBy (ofRecordFrom vs len origin) (planOf vs len pol choice))
+      (rw (words-same len ws vs s, plan-same pol choice))
+      (λ p e. plan-len pol choice p (passed-all (ofRecordFrom ws len origin) (planOf ws len pol choice) p e .1))
+      (λ f p. andThen (fit f p cells) (λ s. refuseIf (ltb spill (s .spill)) 7 (answer (summaryOf f p origin))))
 
   -- what follows a build likewise
-  after-same : {X : Type 0} (pol : Polarity) (choice : Choice) (cells spill : ℕ) (after : (ℕ → ℕ) → Summary → X) (else : ℕ → X)
-      → byOutcome (λ t. after (posIn ws (t .plan)) t) else (buildOf ws len pol choice cells spill)
-      ≡ byOutcome (λ t. after (posIn vs (t .plan)) t) else (buildOf vs len pol choice cells spill)
-  after-same {X} pol choice cells spill after else = at (buildOf ws len pol choice cells spill) refl (build-same pol choice cells spill)
+  after-same : {X : Type 0} (origin : ℕ) (pol : Polarity) (choice : Choice) (cells spill : ℕ) (after : (ℕ → ℕ) → Summary → X) (else : ℕ → X)
+      → byOutcome (λ t. after (posIn ws (t .plan)) t) else (buildOf ws len origin pol choice cells spill)
+      ≡ byOutcome (λ t. after (posIn vs (t .plan)) t) else (buildOf vs len origin pol choice cells spill)
+  after-same {X} origin pol choice cells spill after else = at (buildOf ws len origin pol choice cells spill) refl (build-same origin pol choice cells spill)
     where
-      at : (o : Outcome Summary) → buildOf ws len pol choice cells spill ≡ o
-          → buildOf ws len pol choice cells spill ≡ buildOf vs len pol choice cells spill
-          → byOutcome (λ t. after (posIn ws (t .plan)) t) else (buildOf ws len pol choice cells spill)
-          ≡ byOutcome (λ t. after (posIn vs (t .plan)) t) else (buildOf vs len pol choice cells spill)
+      at : (o : Outcome Summary) → buildOf ws len origin pol choice cells spill ≡ o
+          → buildOf ws len origin pol choice cells spill ≡ buildOf vs len origin pol choice cells spill
+          → byOutcome (λ t. after (posIn ws (t .plan)) t) else (buildOf ws len origin pol choice cells spill)
+          ≡ byOutcome (λ t. after (posIn vs (t .plan)) t) else (buildOf vs len origin pol choice cells spill)
       at (answer t) e d =
-          let c = plan-facts ws len pol choice (t .plan) (admission ws len pol choice cells spill t e .planned) in
+          let c = plan-facts ws len pol choice (t .plan) (admission ws len origin pol choice cells spill t e .planned) in
           rw (sym d ∙ e, e) (ap (λ (f : ℕ → ℕ). after f t) (pos-same (t .plan) (c .length)))
       at (refused n) e d = rw (sym d ∙ e, e)
 
-  check-same : (pol : Polarity) (choice : Choice) (t : Summary) (inv sp : List ℕ)
-      → checkOf ws len pol choice t inv sp ≡ checkOf vs len pol choice t inv sp
+  check-same : (origin : ℕ) (pol : Polarity) (choice : Choice) (t : Summary) (inv sp : List ℕ)
+      → checkOf ws len origin pol choice t inv sp ≡ checkOf vs len origin pol choice t inv sp
   unfolding checkOf
-  check-same pol choice t inv sp =
-      by-then (buildOf ws len pol choice (length inv) (length sp)) _
-      ∙ after-same pol choice (length inv) (length sp) (λ f u. answer (sameSummary t u && sameIndex f (u .plan) inv sp)) refused
-      ∙ sym (by-then (buildOf vs len pol choice (length inv) (length sp)) _)
+  check-same origin pol choice t inv sp =
+      by-then (buildOf ws len origin pol choice (length inv) (length sp)) _
+      ∙ after-same origin pol choice (length inv) (length sp) (λ f u. answer (sameSummary t u && sameIndex f (u .plan) inv sp)) refused
+      ∙ sym (by-then (buildOf vs len origin pol choice (length inv) (length sp)) _)
 
-  inventory-same : (pol : Polarity) (choice : Choice) (inv sp : List ℕ)
-      → inventoryHolds ws len pol choice inv sp ≡ inventoryHolds vs len pol choice inv sp
-  inventory-same pol choice inv sp =
-      by-inventory ws inv (buildOf ws len pol choice (length inv) (length sp))
-      ∙ after-same pol choice (length inv) (length sp) (λ f t. inventoryOf f (t .plan) ++ drop (t .«inventory_len») inv) (λ n. inv)
-      ∙ sym (by-inventory vs inv (buildOf vs len pol choice (length inv) (length sp)))
+  inventory-same : (origin : ℕ) (pol : Polarity) (choice : Choice) (inv sp : List ℕ)
+      → inventoryHolds ws len origin pol choice inv sp ≡ inventoryHolds vs len origin pol choice inv sp
+  inventory-same origin pol choice inv sp =
+      by-inventory ws inv (buildOf ws len origin pol choice (length inv) (length sp))
+      ∙ after-same origin pol choice (length inv) (length sp) (λ f t. inventoryOf f (t .plan) ++ drop (t .«inventory_len») inv) (λ n. inv)
+      ∙ sym (by-inventory vs inv (buildOf vs len origin pol choice (length inv) (length sp)))
 
-  spill-same : (pol : Polarity) (choice : Choice) (inv sp : List ℕ)
-      → spillHolds ws len pol choice inv sp ≡ spillHolds vs len pol choice inv sp
-  spill-same pol choice inv sp =
-      by-spill ws sp (buildOf ws len pol choice (length inv) (length sp))
-      ∙ after-same pol choice (length inv) (length sp) (λ f t. spillOf f (t .plan) ++ drop (t .«spill_len») sp) (λ n. sp)
-      ∙ sym (by-spill vs sp (buildOf vs len pol choice (length inv) (length sp)))
+  spill-same : (origin : ℕ) (pol : Polarity) (choice : Choice) (inv sp : List ℕ)
+      → spillHolds ws len origin pol choice inv sp ≡ spillHolds vs len origin pol choice inv sp
+  spill-same origin pol choice inv sp =
+      by-spill ws sp (buildOf ws len origin pol choice (length inv) (length sp))
+      ∙ after-same origin pol choice (length inv) (length sp) (λ f t. spillOf f (t .plan) ++ drop (t .«spill_len») sp) (λ n. sp)
+      ∙ sym (by-spill vs sp (buildOf vs len origin pol choice (length inv) (length sp)))
 
   -- ---- the readers
   module _ (t : Summary) (inv sp : List ℕ) (e : t .plan .len ≡ len) where
@@ -129,11 +131,11 @@ module _ (len : ℕ) (ws vs : List ℕ) (s : SameRecord len ws vs) where
 
     hint-same : (r : ℕ) → hintOf ws t inv sp r ≡ hintOf vs t inv sp r
     unfolding hintOf
-    hint-same r = tests-same (ofRank (N (t .plan)) r) (hintAt t inv sp r)
+    hint-same r = tests-same (ofRank (N (t .plan)) r) (hintSample t inv sp r)
 
     select-same : (r : ℕ) → selectOf ws t inv sp r ≡ selectOf vs t inv sp r
-    unfolding selectOf
-    select-same r = tests-same (ofRank (N (t .plan)) r) (positionOf ws t inv sp r) ∙ rw (position-same r)
+    unfolding selectOf sampleOf
+    select-same r = tests-same (ofRank (N (t .plan)) r) (sampleOf ws t inv sp r) ∙ rw (position-same r)
 
     store-same : (r : ℕ) → subinventoryOf ws t inv sp r ≡ subinventoryOf vs t inv sp r
     unfolding subinventoryOf storeOf
@@ -161,8 +163,9 @@ module _ (len : ℕ) (ws vs : List ℕ) (s : SameRecord len ws vs) where
   padding-alike = record {
     count = count-same len ws vs s;
     plan = plan-same;
-    size = λ pol choice. then-same pol choice (λ f p. fit f p (2 ^ 64 - 1));
-    build = λ pol choice inv sp. build-same pol choice (length inv) (length sp);
+    size = λ pol choice. then-same (planOf ws len pol choice) (planOf vs len pol choice) (plan-same pol choice) (plan-len pol choice)
+        (λ f p. fit f p (2 ^ 64 - 1));
+    build = λ origin pol choice inv sp. build-same origin pol choice (length inv) (length sp);
     buildInventory = inventory-same;
     buildSpill = spill-same;
     check = check-same;

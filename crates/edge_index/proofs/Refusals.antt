@@ -5,17 +5,18 @@ use mathlib.Core.Option.{Option, none, some}
 use mathlib.Core.Path.{_≡_, refl, sym, ap, _∙_}
 use Prim.Native.Nat.{ℕ, _+_, _-_, _^_}
 use native.Mathlib.Omega.{arith}
-use lib.Dec.{leb, ltb}
+use lib.Dec.{eqb, leb, ltb}
 use lib.ListN.{length, getD}
-use borrow.Author.Tests.{le-ltb}
-use Rattle.rank_sel.specs.Outcome.{Outcome, answer, refused, refuseIf, orRefuse, Conditions, refuseBy, andThen}
+use borrow.Author.Tests.{le-ltb, eqb-false}
+use Rattle.rank_sel.specs.Outcome.{Outcome, answer, refused, refuseIf, orRefuse, Conditions, refuseBy, NoneOf, andThen}
 use Rattle.rank_sel.specs.Seek.{seek}
-use Rattle.rank_sel.proofs.Outcome.{tests-more}
+use Rattle.rank_sel.proofs.Outcome.{never, tests-more, tests-past}
 use Rattle.select_in_word.proofs.Bit.{ones-rank}
 use Rattle.select_in_word.proofs.Select.{word-refused, word-missing}
 use Rattle.bit_record.specs.Record.{selected, numSelected, countOf}
 use Rattle.bit_record.specs.declared.Polarity.{Polarity}
-use Rattle.spacing.specs.Spacing.{N, chosenPlan, planOf}
+use Rattle.bit_record.proofs.Counted.{admitted-none, admitted-from}
+use Rattle.spacing.specs.Spacing.{N, rule, chosenPlan, planOf}
 use Rattle.spacing.specs.declared.Choice.{Choice}
 use Rattle.spacing.specs.declared.Parameters.{Parameters}
 use Rattle.inventory.specs.Index.{inventoryLenOf, summaryOf}
@@ -23,13 +24,13 @@ use Rattle.inventory.specs.Lanes.{laneOf}
 use Rattle.inventory.specs.declared.summary.Summary.{Summary}
 use Rattle.build_inventory.specs.Build.{Sizes, fitted, sizeOf, buildFrom, buildOf, checkOf}
 use Rattle.build_inventory.specs.Positions.{spillLenOf}
-use Rattle.read_inventory.specs.Jump.{selectOf, hintOf, dwellAt, dwellOf, storeOf, subinventoryOf, cellsOf}
+use Rattle.read_inventory.specs.Jump.{sampleOf, selectOf, hintSample, hintOf, dwellAt, dwellOf, storeOf, subinventoryOf, cellsOf}
 use Rattle.read_inventory.specs.Read.{kindAt, spanAt, shapeAt, Place, start, own, over, placeAt, numberAt, spanTooSmall, markAt, entryOfRank, markNumber, markOfRank, Hint, hintAt, positionOf}
 use Rattle.read_inventory.specs.Tests.{rankTooLarge, ranksFall}
 use Rattle.read_inventory.proofs.PartSize.{store-some, store-in, store-length}
 use Rattle.select_list.specs.List.{Walk, start as begin, after, walk, fallsFrom, anyTooLarge, ofList, listed, walkOf, listOf}
 use Rattle.select_list.specs.Step.{Reached, Start, startOf, readFrom, atMark, stepFrom, stepOf}
-use Rattle.edge_index.specs.Refusals.{firstOf, InOrder, recordOrder, choiceOrder, indexOrder, planIn, summaryIn, toSeven, Only10, MakersRefuse, ReadersRefuse, InWordRefuses}
+use Rattle.edge_index.specs.Refusals.{firstOf, InOrder, recordOrder, recordFromOrder, choiceOrder, indexOrder, planIn, summaryIn, toSix, toSeven, Never, Only10, MakersRefuse, ReadersRefuse, InWordRefuses}
 
 -- ---- chains of tests
 some-none : {B : Type 0} (n : ℕ) → _≡_ {A = Option ℕ} (some n) none → B
@@ -64,11 +65,43 @@ in-then o (c ∷ cs) ds a go rest h k =
         some-is e = cc
     step false f ih = let i = ih f in record { first = λ n g. i .first n (rw f at g); else = λ g. i .else (rw f at g) }
 
+-- a number that none of the conditions has is never said
+Unsaid : ℕ → Conditions → Type 0
+Unsaid n [] = Unit {0}
+Unsaid n (c ∷ cs) = (eqb (c .1) n ≡ false) × Unsaid n cs
+
+in-never : {A : Type 0} (n : ℕ) (o : Outcome A) (cs : Conditions) (a : A) → InOrder o cs (answer a) → Unsaid n cs → Never n o
+unfolding Unsaid
+in-never n o [] a h u e = never (sym e ∙ h .else refl)
+in-never {A} n o (c ∷ cs) a h u e =
+    go (c .0) refl (λ f. in-never n o cs a (record { first = λ m g. h .first m (rw f g); else = λ g. h .else (rw f g) }) (u .1) e)
+  where
+    go : (b : Bool) → c .0 ≡ b → (c .0 ≡ false → ⊥) → ⊥
+    go true f ih =
+        let d : _≡_ {A = Outcome A} (refused (c .1)) (refused n) = sym (h .first (c .1) (rw f refl)) ∙ e in
+        let k : c .1 ≡ n = cc in
+        eqb-false (c .1) n (u .0) k
+    go false f ih = ih f
+
 -- ---- the entries that take a choice
-module _ (ws : List ℕ) (len : ℕ) (pol : Polarity) (choice : Choice) where
+module _ (ws : List ℕ) (len origin : ℕ) (pol : Polarity) (choice : Choice) where
   in-plan : InOrder (planOf ws len pol choice) (recordOrder ws len ++ choiceOrder ws len pol choice) (answer (planIn ws len pol choice))
   unfolding planOf countOf chosenPlan
   in-plan = in-then _ _ _ (numSelected pol ws len) _ _ (in-tests (recordOrder ws len) _) (in-tests (choiceOrder ws len pol choice) _)
+
+  -- past the tests of a record from an origin on, plan's own of the record are passed
+  plan-past : NoneOf (recordFromOrder ws len origin) → planOf ws len pol choice ≡ chosenPlan pol len (numSelected pol ws len) (rule choice)
+  unfolding planOf countOf
+  plan-past h = let n = admitted-none ws len (admitted-from ws len origin h .admitted) in rw (n .0, n .1 .0)
+
+  in-plan-from :
+      InOrder (refuseBy (recordFromOrder ws len origin) (planOf ws len pol choice))
+      (recordFromOrder ws len origin ++ choiceOrder ws len pol choice) (answer (planIn ws len pol choice))
+  unfolding chosenPlan
+  in-plan-from =
+      let e = tests-past (recordFromOrder ws len origin) _ _ plan-past
+      ∙ sym (tests-more (recordFromOrder ws len origin) (choiceOrder ws len pol choice) _) in
+      rw e (in-tests (recordFromOrder ws len origin ++ choiceOrder ws len pol choice) _)
 
   abbrev p : Parameters
   p = planIn ws len pol choice
@@ -81,29 +114,42 @@ module _ (ws : List ℕ) (len : ℕ) (pol : Polarity) (choice : Choice) where
   in-fit most = in-tests ((ltb most (inventoryLenOf p), 6) ∷ []) _
 
   in-from : (cells spill : ℕ)
-      → InOrder (buildFrom ws p cells spill) ((ltb cells (inventoryLenOf p), 6) ∷ (ltb spill (spillLenOf ws p), 7) ∷ [])
-      (answer (summaryIn ws len pol choice))
+      → InOrder (buildFrom ws origin p cells spill) ((ltb cells (inventoryLenOf p), 6) ∷ (ltb spill (spillLenOf ws p), 7) ∷ [])
+      (answer (summaryIn ws len origin pol choice))
   unfolding buildFrom
   in-from cells spill = in-then _ _ _ sizes _ _ (in-fit cells) (in-tests ((ltb spill (spillLenOf ws p), 7) ∷ []) _)
 
   in-build : (cells spill : ℕ)
-      → InOrder (buildOf ws len pol choice cells spill) (toSeven ws len pol choice cells spill) (answer (summaryIn ws len pol choice))
+      → InOrder (buildOf ws len origin pol choice cells spill) (toSeven ws len origin pol choice cells spill)
+      (answer (summaryIn ws len origin pol choice))
   unfolding buildOf summaryOf
-  in-build cells spill = in-then _ (recordOrder ws len ++ choiceOrder ws len pol choice) _ p _ _ in-plan (in-from cells spill)
+  in-build cells spill =
+      in-then _ (recordFromOrder ws len origin ++ choiceOrder ws len pol choice) _ p _ _ in-plan-from (in-from cells spill)
+
+  in-count : InOrder (countOf ws len pol) (recordOrder ws len) (answer (numSelected pol ws len))
+  unfolding countOf
+  in-count = in-tests (recordOrder ws len) _
+
+  in-size : InOrder (sizeOf ws len pol choice) (toSix ws len origin pol choice (recordOrder ws len) (2 ^ 64 - 1)) (answer sizes)
+  unfolding sizeOf
+  in-size = in-then _ _ _ p _ _ in-plan (in-fit (2 ^ 64 - 1))
 
   -- an answer that goes on to no more tests
   in-last : {A B : Type 0} (o : Outcome A) (cs : Conditions) (a : A) (go : A → B) → InOrder o cs (answer a)
       → InOrder (andThen o (λ x. answer (go x))) cs (answer (go a))
   in-last o cs a go h = record { first = λ n e. rw (h .first n e); else = λ e. rw (h .else e) }
 
-  pub makers-refuse : MakersRefuse ws len pol choice
-  unfolding countOf sizeOf checkOf summaryOf
+  pub makers-refuse : MakersRefuse ws len origin pol choice
+  unfolding checkOf summaryOf Unsaid
   makers-refuse = record {
-    count = in-tests (recordOrder ws len) _;
+    count = in-count;
     plan = in-plan;
-    size = in-then _ _ _ p _ _ in-plan (in-fit (2 ^ 64 - 1));
+    size = in-size;
+    count-14 = in-never 14 _ _ _ in-count (refl, (refl, tt));
+    plan-14 = in-never 14 _ _ _ in-plan (refl, (refl, (refl, (refl, (refl, tt)))));
+    size-14 = in-never 14 _ _ _ in-size (refl, (refl, (refl, (refl, (refl, (refl, tt))))));
     build = in-build;
-    check = λ t inv sp. in-last _ _ (summaryIn ws len pol choice) _ (in-build (length inv) (length sp));
+    check = λ t inv sp. in-last _ _ (summaryIn ws len origin pol choice) _ (in-build (length inv) (length sp));
   }
 
 -- ---- 10 alone
@@ -187,11 +233,11 @@ module _ (ws : List ℕ) (t : Summary) (inv sp : List ℕ) where
 
   ten-list : (ranks : List ℕ) → Only10 (walkOf ws t inv sp ranks)
   unfolding walkOf
-  ten-list ranks = ten-then (walk ws t inv sp begin ranks) _ (ten-walk ranks begin) (λ w. ten-answer (listed w))
+  ten-list ranks = ten-then (walk ws t inv sp begin ranks) _ (ten-walk ranks begin) (λ w. ten-answer (listed (t .origin) w))
 
 -- ---- the readers
 none-listed : (ws : List ℕ) (t : Summary) (inv sp : List ℕ) (lent : ℕ) → firstOf (indexOrder ws t inv sp) ≡ none
-    → listOf ws t inv sp [] lent ≡ answer (record { positions = []; total = 0 })
+    → listOf ws t inv sp [] lent ≡ answer (record { samples = []; total = 0 })
 unfolding listOf walkOf walk fallsFrom anyTooLarge
 none-listed ws t inv sp lent e =
     tests-more (indexOrder ws t inv sp) (ofList (N (t .plan)) [] lent) (walkOf ws t inv sp [])
@@ -204,12 +250,12 @@ store-back ws t inv sp r (answer h) e d = absurd (omega (arith, store-some ws t 
 store-back ws t inv sp r (refused n) e d = (n, refl)
 
 pub readers-refuse : (ws : List ℕ) (t : Summary) (inv sp : List ℕ) → ReadersRefuse ws t inv sp
-unfolding selectOf hintOf dwellOf subinventoryOf storeOf listOf
+unfolding selectOf sampleOf hintOf hintSample dwellOf subinventoryOf storeOf listOf
 readers-refuse ws t inv sp = record {
   select = λ r. in-tests (indexOrder ws t inv sp ++ ((rankTooLarge (N (t .plan)) r, 8) ∷ [])) _;
-  select-10 = ten-position ws t inv sp;
+  select-10 = λ r. ten-then (positionOf ws t inv sp r) _ (ten-position ws t inv sp r) (λ p. ten-answer _);
   hint = λ r. in-tests (indexOrder ws t inv sp ++ ((rankTooLarge (N (t .plan)) r, 8) ∷ [])) _;
-  hint-10 = ten-hint t inv sp;
+  hint-10 = λ r. ten-then (hintAt t inv sp r) _ (ten-hint t inv sp r) (λ h. ten-answer _);
   dwell =
       λ a b. in-tests
       (indexOrder ws t inv sp ++ ((rankTooLarge (N (t .plan)) a, 8) ∷ (rankTooLarge (N (t .plan)) b, 8) ∷ (ranksFall a b, 11) ∷ [])) _;

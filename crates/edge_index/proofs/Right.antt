@@ -16,7 +16,7 @@ use Rattle.rank_sel.specs.Seek.{select}
 use Rattle.rank_sel.proofs.Numbers.{lt-or-le}
 use Rattle.rank_sel.proofs.Outcome.{tests-more, passing}
 use Rattle.rank_sel.proofs.Select.{select-le, select-seek}
-use Rattle.bit_record.specs.Record.{selected, numSelected, bitOf}
+use Rattle.bit_record.specs.Record.{selected, numSelected, bitOf, sampleAt}
 use Rattle.bit_record.specs.declared.Polarity.{Polarity}
 use Rattle.spacing.specs.Spacing.{N, L, M}
 use Rattle.spacing.specs.declared.Choice.{Choice}
@@ -32,8 +32,8 @@ use Rattle.inventory.proofs.Marks.{start-here}
 use Rattle.inventory.proofs.Ranks.{entry-below, rank-entry, rank-sub, rank-in}
 use Rattle.inventory.proofs.Entries.{kind-whole, kind-headless, some-lanes, spill-heads, in-mark, mark-in, marks-placed, shape-by, spilled-by}
 use Rattle.inventory.proofs.Sums.{sum-part}
-use Rattle.read_inventory.specs.Jump.{selectOf, hintOf, dwellAt, dwellOf, partBy, storeOf, subinventoryOf}
-use Rattle.read_inventory.specs.Read.{cellAt, shapeAt, spilledAt, placeAt, isU64, markNumber, residual, Mark, markOfRank, hintAt, finish, positionOf}
+use Rattle.read_inventory.specs.Jump.{sampleOf, selectOf, hintSample, hintOf, dwellAt, dwellOf, partBy, storeOf, subinventoryOf}
+use Rattle.read_inventory.specs.Read.{cellAt, shapeAt, spilledAt, placeAt, isU64, markNumber, residual, Mark, markOfRank, finish, positionOf}
 use Rattle.read_inventory.specs.Tests.{ofIndex, ofRank, ofRanks}
 use Rattle.read_inventory.proofs.Answers.{hint-mark}
 use Rattle.read_inventory.proofs.Passing.{IndexHeld, index-none}
@@ -54,7 +54,8 @@ exact-kind U16 e = absurd (false≢true e)
 exact-kind U32 e = absurd (false≢true e)
 exact-kind U64 e = refl
 
-module _ (ws : List ℕ) (len : ℕ) (pol : Polarity) (choice : Choice) (t : Summary) (inv sp : List ℕ) (s : Sound ws len pol choice t inv sp) where
+module _ (ws : List ℕ) (len origin : ℕ) (pol : Polarity) (choice : Choice) (t : Summary) (inv sp : List ℕ)
+    (s : Sound ws len origin pol choice t inv sp) where
   abbrev f : ℕ → Bool
   f = selected pol ws len
 
@@ -75,7 +76,7 @@ module _ (ws : List ℕ) (len : ℕ) (pol : Polarity) (choice : Choice) (t : Sum
   index-held : IndexHeld ws t inv sp
   unfolding inventoryLenOf
   index-held = record {
-    admitted = c .of .admitted;
+    from = record { admitted = c .of .admitted; numbered = omega (arith, s .numbered, s .bitZero, c .length) };
     lawful = record { few = c .of .few; smallL = c .of .smallL; smallM = c .of .smallM; spaced = c .of .spaced; counted = s .inventoryLen };
     held = record { own = s .inventoryHeld; over = s .spillHeld };
   }
@@ -133,16 +134,16 @@ module _ (ws : List ℕ) (len : ℕ) (pol : Polarity) (choice : Choice) (t : Sum
       ∙ finish-mark (markFor r .exact) f len (markOf r) (passes r) (rw (mark-rank r h) (num r h)) (none-passed r)
       ∙ ap (λ (i : ℕ). answer (pos i)) (mark-rank r h))
 
-  select-right : (r : ℕ) → r < N p → selectOf ws t inv sp r ≡ answer (pos r)
-  unfolding selectOf
-  select-right r h = tests-pass (ofRank (N p) r) (positionOf ws t inv sp r) ∙ rw (lt-leb (N p) r h) (position-right r h)
+  select-right : (r : ℕ) → r < N p → selectOf ws t inv sp r ≡ answer (sampleAt origin (pos r))
+  unfolding selectOf sampleOf
+  select-right r h = tests-pass (ofRank (N p) r) (sampleOf ws t inv sp r) ∙ rw (lt-leb (N p) r h, position-right r h, s .bitZero)
 
   rise : (a b : ℕ) → a ≤ b → b < N p → pos a ≤ pos b
   rise a b l h = let d : a + (b - a) ≡ b = omega arith in subst (λ (n : ℕ). pos a ≤ pos n) d (select-le f len a (b - a) (rw d (num b h)))
 
-  hint-right : (r : ℕ) → r < N p → hintOf ws t inv sp r ≡ answer (record { mark = pos (markOf r); rank = markOf r })
-  unfolding hintOf
-  hint-right r h = tests-pass (ofRank (N p) r) (hintAt t inv sp r) ∙ rw (lt-leb (N p) r h) (s .met r h .mark)
+  hint-right : (r : ℕ) → r < N p → hintOf ws t inv sp r ≡ answer (record { mark = sampleAt origin (pos (markOf r)); rank = markOf r })
+  unfolding hintOf hintSample
+  hint-right r h = tests-pass (ofRank (N p) r) (hintSample t inv sp r) ∙ rw (lt-leb (N p) r h, s .met r h .mark, s .bitZero)
 
   -- ---- the cells where a mark is recorded
   shape-right : (k : ℕ) → k < entriesOf p → shapeAt t inv k ≡ entryOf pos p k .shape
@@ -200,29 +201,30 @@ module _ (ws : List ℕ) (len : ℕ) (pol : Polarity) (choice : Choice) (t : Sum
   list-tests ranks lent = tests-pass (ofList (N p) ranks lent) (walkOf ws t inv sp ranks)
 
   list-right : (ranks places : List ℕ) → Answerable (N p) ranks (length places)
-      → (x : Listed) × (listOf ws t inv sp ranks (length places) ≡ answer x) × ListRight ws len pol t inv sp ranks places x
+      → (x : Listed) × (listOf ws t inv sp ranks (length places) ≡ answer x) × ListRight ws len origin pol t inv sp ranks places x
   list-right ranks places a =
       let u : falls ranks ≡ false = rising-none ranks 0 (λ l. omega arith) (a .rising) in
       let b : anyTooLarge (N p) ranks ≡ false = below-none (N p) ranks (a .below) in
       let v = walk-lists leading ranks u b in
       let x : Listed = v .0 in
-      let n : length (x .positions) ≡ length ranks = ap length (v .1 .positions) ∙ length-map ranks pos in
-      let w : (i : ℕ) → i < length ranks → getD (placesAfter (answer x) places) i 0 ≡ pos (getD ranks i 0) =
-      λ i l. List·getD-append (x .positions) _ 0 i (omega (arith, n))
-      ∙ ap (λ (ps : List ℕ). getD ps i 0) (v .1 .positions)
-      ∙ mapped pos ranks i l in (
+      let n : length (x .samples) ≡ length ranks = ap length (v .1 .samples) ∙ length-map ranks _ in
+      let w : (i : ℕ) → i < length ranks → getD (placesAfter (answer x) places) i 0 ≡ sampleAt origin (pos (getD ranks i 0)) =
+      λ i l. List·getD-append (x .samples) _ 0 i (omega (arith, n))
+      ∙ ap (λ (ps : List ℕ). getD ps i 0) (v .1 .samples)
+      ∙ mapped (λ r. sampleAt (t .origin) (pos r)) ranks i l
+      ∙ rw (s .bitZero) in (
         x,
         list-tests ranks (length places) ∙ rw (u, le-ltb (length places) (length ranks) (a .room), b) (v .1 .found),
         record {
           jumps = λ i l. rw (w i l) (select-right (getD ranks i 0) (a .below i l));
-          bits = λ i l. rw (w i l) (s .bits (getD ranks i 0) (a .below i l));
-          past = drop-at (x .positions) _ (length ranks) n ∙ ap (λ (k : ℕ). drop k places) n;
-          many = length-append (x .positions) _ ∙ omega (arith, length-drop (length (x .positions)) places, n, a .room);
+          bits = λ i l. (pos (getD ranks i 0), w i l, s .bits (getD ranks i 0) (a .below i l));
+          past = drop-at (x .samples) _ (length ranks) n ∙ ap (λ (k : ℕ). drop k places) n;
+          many = length-append (x .samples) _ ∙ omega (arith, length-drop (length (x .samples)) places, n, a .room);
           fewer = v .1 .fewer;
         },
       )
 
-  pub right : Right ws len pol t inv sp
+  pub right : Right ws len origin pol t inv sp
   unfolding selectOf hintOf dwellOf dwellAt
   right = record {
     select = λ r h. (pos r, select-right r h, s .bits r h);
@@ -245,8 +247,8 @@ module _ (ws : List ℕ) (len : ℕ) (pol : Polarity) (choice : Choice) (t : Sum
     );
     store = store-right;
     list = list-right;
-    selectPast = λ r h. tests-pass (ofRank (N p) r) (positionOf ws t inv sp r) ∙ rw (le-leb (N p) r h);
-    hintPast = λ r h. tests-pass (ofRank (N p) r) (hintAt t inv sp r) ∙ rw (le-leb (N p) r h);
+    selectPast = λ r h. tests-pass (ofRank (N p) r) (sampleOf ws t inv sp r) ∙ rw (le-leb (N p) r h);
+    hintPast = λ r h. tests-pass (ofRank (N p) r) (hintSample t inv sp r) ∙ rw (le-leb (N p) r h);
     dwellPastA = λ a b h. tests-pass (ofRanks (N p) a b) (dwellAt ws t inv sp a b) ∙ rw (le-leb (N p) a h);
     dwellPastB = λ a b l h. tests-pass (ofRanks (N p) a b) (dwellAt ws t inv sp a b) ∙ rw (lt-leb (N p) a l, le-leb (N p) b h);
     dwellFalls =

@@ -15,7 +15,7 @@ use Rattle.rank_sel.specs.Rank.{rank}
 use Rattle.rank_sel.proofs.Numbers.{lt-or-le}
 use Rattle.rank_sel.proofs.Rank.{rank-one}
 use Rattle.rank_sel.proofs.Select.{select-sought, select-rank, select-below, select-le}
-use Rattle.bit_record.specs.Record.{selected, numSelected, bitOf}
+use Rattle.bit_record.specs.Record.{selected, numSelected, bitOf, sampleAt}
 use Rattle.bit_record.specs.declared.Polarity.{Polarity}
 use Rattle.spacing.specs.Spacing.{N, L, planOf}
 use Rattle.spacing.specs.declared.Choice.{Choice}
@@ -92,16 +92,16 @@ module _ (ws : List ℕ) (len : ℕ) (pol : Polarity) (choice : Choice) (p : Par
           (arith, add-mul (s / 2 ^ qOf pos p e) 1 (2 ^ qOf pos p e), div-add-mod' s (2 ^ qOf pos p e), mod-lt s (pow-pos (qOf pos p e)))
       go false = omega (arith, add-mul e 1 (2 ^ L p), rank-in p e s l)
 
-  module _ (inv sp : List ℕ) (w : Placed pos p inv sp) where
+  module _ (origin : ℕ) (inv sp : List ℕ) (w : Placed pos p inv sp) where
     abbrev t : Summary
-    t = summaryOf pos p
+    t = summaryOf pos p origin
 
     -- the mark of subrank s, by its rank
     hint-here : (e s : ℕ) → e < entriesOf p → s < ranksOf p e
         → hintAt t inv sp (e * 2 ^ L p + s)
         ≡ answer (record { mark = pos (markRank pos p e (s / 2 ^ qOf pos p e)); rank = markRank pos p e (s / 2 ^ qOf pos p e) })
     unfolding mark
-    hint-here e s h l = hint-read pos p g (facts .of .spaced) inv sp w e h s l ∙ rw (first-rank pos p e)
+    hint-here e s h l = hint-read pos p g (facts .of .spaced) origin inv sp w e h s l ∙ rw (first-rank pos p e)
 
     marked : (e k : ℕ) → e < entriesOf p → k < marksOf pos p e
         → hintAt t inv sp (markRank pos p e k) ≡ answer (record { mark = pos (markRank pos p e k); rank = markRank pos p e k })
@@ -148,7 +148,7 @@ module _ (ws : List ℕ) (len : ℕ) (pol : Polarity) (choice : Choice) (p : Par
 
     -- an entry's start as read, and the selected bits from it on
     starts : (e : ℕ) → e < entriesOf p → startAt t inv e ≡ pos (e * 2 ^ L p)
-    starts e h = start-read pos p g (facts .of .spaced) inv sp w e h ∙ start-here pos p e (entry-below p e h)
+    starts e h = start-read pos p g (facts .of .spaced) origin inv sp w e h ∙ start-here pos p e (entry-below p e h)
 
     start-rank : (e : ℕ) → e < entriesOf p → rank f (startAt t inv e) ≡ e * 2 ^ L p
     start-rank e h = ap (rank f) (starts e h) ∙ bit-rank (e * 2 ^ L p) (entry-below p e h)
@@ -172,10 +172,13 @@ module _ (ws : List ℕ) (len : ℕ) (pol : Polarity) (choice : Choice) (p : Par
         (omega (arith, start-rank e (omega arith), plan-num ws len pol p facts), omega arith, omega arith)
 
     -- cells placed, and long enough, have demand 3
-    pub placed-sound : inventoryLenOf p ≤ length inv → spillStart pos p (entriesOf p) ≤ length sp → Sound ws len pol choice t inv sp
+    pub placed-sound : sampleAt origin len < 2 ^ 62 → inventoryLenOf p ≤ length inv → spillStart pos p (entriesOf p) ≤ length sp
+        → Sound ws len origin pol choice t inv sp
     unfolding inventoryLenOf spillStart summaryOf
-    placed-sound a b = record {
+    placed-sound n a b = record {
       plan = planned;
+      bitZero = refl;
+      numbered = n;
       inventoryLen = refl;
       inventoryHeld = a;
       spillHeld = b;
@@ -185,16 +188,16 @@ module _ (ws : List ℕ) (len : ℕ) (pol : Polarity) (choice : Choice) (p : Par
       marked = marked;
       between = between;
       starts = starts;
-      kinds = kind-read pos p g (facts .of .spaced) inv sp w;
-      quanta = quantum-read pos p g (facts .of .spaced) inv sp w;
+      kinds = kind-read pos p g (facts .of .spaced) origin inv sp w;
+      quanta = quantum-read pos p g (facts .of .spaced) origin inv sp w;
       whole = whole;
       last = last;
       closing = ap (λ (n : ℕ). getD inv n 0) (omega arith) ∙ closing;
       none16 = kind-spills pos p;
-      second = λ e h n. second-read pos p g (facts .of .spaced) inv sp w e h (kind-heads pos p e n);
+      second = λ e h k. second-read pos p g (facts .of .spaced) origin inv sp w e h (kind-heads pos p e k);
       spillLen = refl;
       tiled = λ c h. let i = tile (spilledOf pos p) (entriesOf p) c h in (i .0, i .1, record { from = i .2; to = i .3 });
       apart = λ c d e x y. tile-one (spilledOf pos p) c d e (x .from) (x .to) (y .from) (y .to);
-      unused = λ e i h m. unused-read pos p g (facts .of .spaced) inv sp w e h i m;
+      unused = λ e i h m. unused-read pos p g (facts .of .spaced) origin inv sp w e h i m;
       met = met;
     }

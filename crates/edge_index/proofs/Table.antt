@@ -14,11 +14,11 @@ use Rattle.inventory.specs.Lawful.{unlawful}
 use Rattle.inventory.specs.Shape.{log2OnesPerSub32}
 use Rattle.build_inventory.specs.Build.{buildFrom, buildOf, checkOf, fitted, samePlan, sameSummary}
 use Rattle.build_inventory.specs.Compare.{sameIndex, sameList}
-use Rattle.read_inventory.specs.Jump.{dwellAt, dwellOf, selectOf}
-use Rattle.read_inventory.specs.Read.{cellAt, kindAt, markAt, markNumber, markOfRank, numberAt, placeAt, positionOf, quantumAt, residual, shapeAt, spanAt, startAt}
+use Rattle.read_inventory.specs.Jump.{dwellAt, dwellOf, hintOf, hintSample, sampleOf, selectOf, storeOf, subinventoryOf}
+use Rattle.read_inventory.specs.Read.{cellAt, hintAt, kindAt, markAt, markNumber, markOfRank, numberAt, placeAt, positionOf, quantumAt, residual, shapeAt, spanAt, startAt}
 use Rattle.select_list.specs.List.{anyTooLarge, fallsFrom, listOf, sumOver, walk, walkOf}
 use Rattle.select_list.specs.Step.{readFrom, singleWords, stepFrom, stepOf, wordsRead}
-use Rattle.edge_index.specs.Table.{Agree, table, lists}
+use Rattle.edge_index.specs.Table.{Agree, table, lists, origins}
 
 pub table-agrees : Agree table
 unfolding rank seek select bit selectInWord bitAt selected numSelected countOf
@@ -26,8 +26,8 @@ unfolding rank seek select bit selectInWord bitAt selected numSelected countOf
     bound entriesOf entryFrom entryOf inventoryLenOf inventoryOf inventoryTo lane mark ownCells packed ranksOf spillCells spillOf spillStart
     spillTo startOf stream summaryOf
     laneOf pack sum tabulate
-    cellAt markOfRank dwellAt dwellOf kindAt markAt markNumber numberAt placeAt positionOf quantumAt residual selectOf shapeAt spanAt
-    startAt unlawful
+    cellAt markOfRank dwellAt dwellOf kindAt markAt markNumber numberAt placeAt positionOf quantumAt residual sampleOf selectOf shapeAt
+    spanAt startAt unlawful
     log2OnesPerSub32 buildFrom buildOf checkOf fitted samePlan sameSummary sameIndex sameList
 table-agrees = (
   refl,
@@ -165,6 +165,18 @@ table-agrees = (
 
 pub lists-agree : Agree lists
 unfolding rank seek bit bitAt selected entriesOf inventoryLenOf laneOf
-    cellAt markOfRank kindAt markAt markNumber numberAt placeAt positionOf quantumAt residual selectOf shapeAt spanAt startAt unlawful
+    cellAt markOfRank kindAt markAt markNumber numberAt placeAt positionOf quantumAt residual sampleOf selectOf shapeAt spanAt
+    startAt unlawful
     anyTooLarge fallsFrom listOf sumOver walk walkOf readFrom singleWords stepFrom stepOf wordsRead
 lists-agree = (refl, (refl, (refl, (refl, (refl, (refl, (refl, (refl, (refl, (refl, (refl, (refl, tt))))))))))))
+
+pub origins-agree : Agree origins
+unfolding rank seek select bit bitAt selected numSelected countOf clog2 firstFrom ilog2 cappedLog2Words chosenPlan planFor planOf
+    bound entriesOf entryFrom entryOf inventoryLenOf inventoryOf inventoryTo lane mark ownCells packed ranksOf spillCells spillOf spillStart
+    spillTo startOf stream summaryOf
+    laneOf pack sum tabulate
+    cellAt markOfRank dwellAt dwellOf hintAt hintOf hintSample kindAt markAt markNumber numberAt placeAt positionOf quantumAt residual
+    sampleOf selectOf shapeAt spanAt startAt storeOf subinventoryOf unlawful
+    buildFrom buildOf checkOf fitted samePlan sameSummary sameIndex sameList
+    anyTooLarge fallsFrom listOf walk walkOf readFrom stepFrom stepOf wordsRead
+origins-agree = (refl, (refl, (refl, (refl, (refl, (refl, (refl, (refl, (refl, (refl, (refl, (refl, (refl, (refl, (refl, (refl, (refl, (refl, (refl, (refl, (refl, tt)))))))))))))))))))))

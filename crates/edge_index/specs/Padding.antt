@@ -17,10 +17,10 @@ pub record Alike (len : ℕ) (ws vs : List ℕ) : Type 0 where
   pub count : (pol : Polarity) → countOf ws len pol ≡ countOf vs len pol
   pub plan : (pol : Polarity) (choice : Choice) → planOf ws len pol choice ≡ planOf vs len pol choice
   pub size : (pol : Polarity) (choice : Choice) → sizeOf ws len pol choice ≡ sizeOf vs len pol choice
-  pub build : (pol : Polarity) (choice : Choice) (inv sp : List ℕ) → buildAnswers ws len pol choice inv sp ≡ buildAnswers vs len pol choice inv sp
-  pub buildInventory : (pol : Polarity) (choice : Choice) (inv sp : List ℕ) → inventoryHolds ws len pol choice inv sp ≡ inventoryHolds vs len pol choice inv sp
-  pub buildSpill : (pol : Polarity) (choice : Choice) (inv sp : List ℕ) → spillHolds ws len pol choice inv sp ≡ spillHolds vs len pol choice inv sp
-  pub check : (pol : Polarity) (choice : Choice) (t : Summary) (inv sp : List ℕ) → checkOf ws len pol choice t inv sp ≡ checkOf vs len pol choice t inv sp
+  pub build : (origin : ℕ) (pol : Polarity) (choice : Choice) (inv sp : List ℕ) → buildAnswers ws len origin pol choice inv sp ≡ buildAnswers vs len origin pol choice inv sp
+  pub buildInventory : (origin : ℕ) (pol : Polarity) (choice : Choice) (inv sp : List ℕ) → inventoryHolds ws len origin pol choice inv sp ≡ inventoryHolds vs len origin pol choice inv sp
+  pub buildSpill : (origin : ℕ) (pol : Polarity) (choice : Choice) (inv sp : List ℕ) → spillHolds ws len origin pol choice inv sp ≡ spillHolds vs len origin pol choice inv sp
+  pub check : (origin : ℕ) (pol : Polarity) (choice : Choice) (t : Summary) (inv sp : List ℕ) → checkOf ws len origin pol choice t inv sp ≡ checkOf vs len origin pol choice t inv sp
   -- the summary's len is the one that counts
   pub select : (t : Summary) (inv sp : List ℕ) (r : ℕ) → t .plan .len ≡ len → selectOf ws t inv sp r ≡ selectOf vs t inv sp r
   pub hint : (t : Summary) (inv sp : List ℕ) (r : ℕ) → t .plan .len ≡ len → hintOf ws t inv sp r ≡ hintOf vs t inv sp r

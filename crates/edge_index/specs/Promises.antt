@@ -1,4 +1,4 @@
--- The promises, over all records, both polarities and all choices. Statements; the proofs are in proofs/Promises.antt.
+-- The promises, over all records, origins, both polarities and all choices. Statements; the proofs are in proofs/Promises.antt.
 use mathlib.Core.Bool.{true}
 use mathlib.Core.List.{List}
 use mathlib.Core.Logic.{_↔_}
@@ -27,15 +27,15 @@ pub record AsThen (len : ℕ) (t : Summary) (ws inv sp vs inv′ sp′ : List �
   pub spill : SameCells (t .«spill_len») sp sp′
 
 -- what is promised of an index built or checked
-pub record Stands (ws : List ℕ) (len : ℕ) (pol : Polarity) (choice : Choice) (t : Summary) (inv sp : List ℕ) : Type 0 where
-  pub yes : checkOf ws len pol choice t inv sp ≡ answer true
-  pub sound : Sound ws len pol choice t inv sp
-  pub right : Right ws len pol t inv sp
+pub record Stands (ws : List ℕ) (len origin : ℕ) (pol : Polarity) (choice : Choice) (t : Summary) (inv sp : List ℕ) : Type 0 where
+  pub yes : checkOf ws len origin pol choice t inv sp ≡ answer true
+  pub sound : Sound ws len origin pol choice t inv sp
+  pub right : Right ws len origin pol t inv sp
 
-module _ (ws : List ℕ) (len : ℕ) (pol : Polarity) (choice : Choice) where
+module _ (ws : List ℕ) (len origin : ℕ) (pol : Polarity) (choice : Choice) where
   -- what build answers for these lent cells, and what they hold afterwards
   abbrev pub buildAnswers : List ℕ → List ℕ → Outcome Summary
-  buildAnswers inv sp = buildOf ws len pol choice (length inv) (length sp)
+  buildAnswers inv sp = buildOf ws len origin pol choice (length inv) (length sp)
 
   abbrev pub inventoryHolds : List ℕ → List ℕ → List ℕ
   inventoryHolds inv sp = inventoryAfter ws inv (buildAnswers inv sp)
@@ -45,21 +45,21 @@ module _ (ws : List ℕ) (len : ℕ) (pol : Polarity) (choice : Choice) where
 
   pub record Promises : Type 0 where
     -- demand 3: what build answers and writes, and what check says yes to
-    pub built-sound : (t : Summary) (inv sp : List ℕ) → buildAnswers inv sp ≡ answer t → Sound ws len pol choice t (inventoryHolds inv sp) (spillHolds inv sp)
-    pub checked-sound : (t : Summary) (inv sp : List ℕ) → checkOf ws len pol choice t inv sp ≡ answer true → Sound ws len pol choice t inv sp
+    pub built-sound : (t : Summary) (inv sp : List ℕ) → buildAnswers inv sp ≡ answer t → Sound ws len origin pol choice t (inventoryHolds inv sp) (spillHolds inv sp)
+    pub checked-sound : (t : Summary) (inv sp : List ℕ) → checkOf ws len origin pol choice t inv sp ≡ answer true → Sound ws len origin pol choice t inv sp
     -- check says yes to what build just left
-    pub built-checked : (t : Summary) (inv sp : List ℕ) → buildAnswers inv sp ≡ answer t → checkOf ws len pol choice t (inventoryHolds inv sp) (spillHolds inv sp) ≡ answer true
+    pub built-checked : (t : Summary) (inv sp : List ℕ) → buildAnswers inv sp ≡ answer t → checkOf ws len origin pol choice t (inventoryHolds inv sp) (spillHolds inv sp) ≡ answer true
     -- and all goes on to hold while record and cells within the counts are as they were when build answered, or check said yes
     pub built-stands : (t : Summary) (inv sp vs inv′ sp′ : List ℕ) → buildAnswers inv sp ≡ answer t
-        → AsThen len t ws (inventoryHolds inv sp) (spillHolds inv sp) vs inv′ sp′ → Stands vs len pol choice t inv′ sp′
-    pub checked-stands : (t : Summary) (inv sp vs inv′ sp′ : List ℕ) → checkOf ws len pol choice t inv sp ≡ answer true
-        → AsThen len t ws inv sp vs inv′ sp′ → Stands vs len pol choice t inv′ sp′
+        → AsThen len t ws (inventoryHolds inv sp) (spillHolds inv sp) vs inv′ sp′ → Stands vs len origin pol choice t inv′ sp′
+    pub checked-stands : (t : Summary) (inv sp vs inv′ sp′ : List ℕ) → checkOf ws len origin pol choice t inv sp ≡ answer true
+        → AsThen len t ws inv sp vs inv′ sp′ → Stands vs len origin pol choice t inv′ sp′
     -- check says yes exactly where build would answer this summary and leave these cells
     pub check-exact : (t : Summary) (inv sp : List ℕ)
-        → (checkOf ws len pol choice t inv sp ≡ answer true) ↔ ((buildAnswers inv sp ≡ answer t) × (inventoryHolds inv sp ≡ inv) × (spillHolds inv sp ≡ sp))
+        → (checkOf ws len origin pol choice t inv sp ≡ answer true) ↔ ((buildAnswers inv sp ≡ answer t) × (inventoryHolds inv sp ≡ inv) × (spillHolds inv sp ≡ sp))
     -- check refuses exactly as build does, and by the same number
-    pub check-refuses : (t : Summary) (inv sp : List ℕ) (n : ℕ) → (checkOf ws len pol choice t inv sp ≡ refused n) ↔ (buildAnswers inv sp ≡ refused n)
+    pub check-refuses : (t : Summary) (inv sp : List ℕ) (n : ℕ) → (checkOf ws len origin pol choice t inv sp ≡ refused n) ↔ (buildAnswers inv sp ≡ refused n)
     -- demand 2, on every index that has demand 3
-    pub sound-right : (t : Summary) (inv sp : List ℕ) → Sound ws len pol choice t inv sp → Right ws len pol t inv sp
+    pub sound-right : (t : Summary) (inv sp : List ℕ) → Sound ws len origin pol choice t inv sp → Right ws len origin pol t inv sp
     -- demand 1: a refusal leaves the lent cells as they were
     pub refused-untouched : (inv sp : List ℕ) (n : ℕ) → buildAnswers inv sp ≡ refused n → (inventoryHolds inv sp ≡ inv) × (spillHolds inv sp ≡ sp)

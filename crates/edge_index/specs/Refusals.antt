@@ -1,5 +1,5 @@
 -- Demand 1: each refusal is given exactly where its condition holds and none before it in the order does. Document 01,
--- "When a call is turned down", and document 02, W-201. The conditions are those that the definitions name.
+-- "When a call is turned down", and document 02, W-201 and W-202. The conditions are those that the definitions name.
 use mathlib.Core.Bool.{cond, _&&_}
 use mathlib.Core.List.{List, [], _∷_, _++_}
 use mathlib.Core.Logic.{_↔_}
@@ -11,7 +11,7 @@ use lib.Dec.{ltb}
 use lib.ListN.{length}
 use Rattle.rank_sel.specs.Outcome.{Outcome, answer, refused, Conditions}
 use Rattle.select_in_word.specs.Select.{selectInWord}
-use Rattle.bit_record.specs.Record.{lenTooLarge, tooFewWords, numSelected, countOf}
+use Rattle.bit_record.specs.Record.{lenTooLarge, originTooLarge, tooFewWords, numSelected, countOf}
 use Rattle.bit_record.specs.declared.Polarity.{Polarity}
 use Rattle.spacing.specs.Spacing.{N, rule, planFor, onesPerInventoryTooLarge, wordsPerSubinventoryTooLarge, overheadNotPositive, planOf}
 use Rattle.spacing.specs.declared.Choice.{Choice}
@@ -22,8 +22,8 @@ use Rattle.inventory.specs.declared.summary.Summary.{Summary}
 use Rattle.build_inventory.specs.Build.{sizeOf, buildOf, sameSummary, checkOf}
 use Rattle.build_inventory.specs.Compare.{sameIndex}
 use Rattle.build_inventory.specs.Positions.{posIn}
-use Rattle.read_inventory.specs.Jump.{selectOf, hintOf, dwellAt, dwellOf, subinventoryOf, PartIn, cellsOf, cellCount}
-use Rattle.read_inventory.specs.Read.{Hint, hintAt, positionOf}
+use Rattle.read_inventory.specs.Jump.{sampleOf, selectOf, hintSample, hintOf, dwellAt, dwellOf, subinventoryOf, PartIn, cellsOf, cellCount}
+use Rattle.read_inventory.specs.Read.{Hint}
 use Rattle.read_inventory.specs.Tests.{inventoryTooShort, spillTooShort, rankTooLarge, ranksFall}
 use Rattle.select_list.specs.List.{falls, tooFewPlaces, anyTooLarge, walkOf, listOf, placesAfter}
 
@@ -41,9 +41,16 @@ pub record InOrder {A : Type 0} (o : Outcome A) (cs : Conditions) (rest : Outcom
 abbrev pub Only10 : {A : Type 0} → Outcome A → Type 0
 Only10 o = (n : ℕ) → o ≡ refused n → n ≡ 10
 
--- ---- of a record: 1, 2; and of a choice: 3, 4, 5
+-- a number that is never said
+abbrev pub Never : {A : Type 0} → ℕ → Outcome A → Type 0
+Never n o = o ≡ refused n → ⊥
+
+-- ---- of a record: 1, 2, and where it has an origin 1, 14, 2; and of a choice: 3, 4, 5
 abbrev pub recordOrder : List ℕ → ℕ → Conditions
 recordOrder ws len = (lenTooLarge len, 1) ∷ (tooFewWords ws len, 2) ∷ []
+
+abbrev pub recordFromOrder : List ℕ → ℕ → ℕ → Conditions
+recordFromOrder ws len origin = (lenTooLarge len, 1) ∷ (originTooLarge origin len, 14) ∷ (tooFewWords ws len, 2) ∷ []
 
 abbrev pub choiceOrder : List ℕ → ℕ → Polarity → Choice → Conditions
 choiceOrder ws len pol choice =
@@ -52,44 +59,48 @@ choiceOrder ws len pol choice =
     ∷ (overheadNotPositive (rule choice), 5)
     ∷ []
 
--- ---- of a summary and cells: 1, 2, 9, 6, 7
+-- ---- of a summary and cells: 1, 14, 2, 9, 6, 7
 abbrev pub indexOrder : List ℕ → Summary → List ℕ → List ℕ → Conditions
 indexOrder ws t inv sp =
-    recordOrder ws (t .plan .len)
+    recordFromOrder ws (t .plan .len) (t .origin)
     ++ ((unlawful t, 9) ∷ (inventoryTooShort t inv, 6) ∷ (spillTooShort t sp, 7) ∷ [])
 
 -- the plan of a record and a choice, where nothing turns them down
 abbrev pub planIn : List ℕ → ℕ → Polarity → Choice → Parameters
 planIn ws len pol choice = planFor pol len (numSelected pol ws len) (rule choice)
 
-module _ (ws : List ℕ) (len : ℕ) (pol : Polarity) (choice : Choice) where
+module _ (ws : List ℕ) (len origin : ℕ) (pol : Polarity) (choice : Choice) where
   -- its summary
   abbrev pub summaryIn : Summary
-  summaryIn = summaryOf (posIn ws (planIn ws len pol choice)) (planIn ws len pol choice)
+  summaryIn = summaryOf (posIn ws (planIn ws len pol choice)) (planIn ws len pol choice) origin
 
-  -- 1 to 5, then 6 where the inventory count is over so many cells
-  abbrev pub toSix : ℕ → Conditions
-  toSix most = (recordOrder ws len ++ choiceOrder ws len pol choice) ++ ((ltb most (inventoryLenOf (planIn ws len pol choice)), 6) ∷ [])
+  -- after the record's, those of the choice, then 6 where the inventory count is over so many cells
+  abbrev pub toSix : Conditions → ℕ → Conditions
+  toSix tests most = (tests ++ choiceOrder ws len pol choice) ++ ((ltb most (inventoryLenOf (planIn ws len pol choice)), 6) ∷ [])
 
   -- 7 where the spill count is
   abbrev pub toSeven : ℕ → ℕ → Conditions
-  toSeven cells spill = toSix cells ++ ((ltb spill (summaryIn .«spill_len»), 7) ∷ [])
+  toSeven cells spill = toSix (recordFromOrder ws len origin) cells ++ ((ltb spill (summaryIn .«spill_len»), 7) ∷ [])
 
   pub record MakersRefuse : Type 0 where
     pub count : InOrder (countOf ws len pol) (recordOrder ws len) (answer (numSelected pol ws len))
     pub plan : InOrder (planOf ws len pol choice) (recordOrder ws len ++ choiceOrder ws len pol choice) (answer (planIn ws len pol choice))
-    pub size : InOrder (sizeOf ws len pol choice) (toSix (2 ^ 64 - 1)) (answer (record { inventory = summaryIn .«inventory_len»; spill = summaryIn .«spill_len» }))
-    pub build : (cells spill : ℕ) → InOrder (buildOf ws len pol choice cells spill) (toSeven cells spill) (answer summaryIn)
+    pub size : InOrder (sizeOf ws len pol choice) (toSix (recordOrder ws len) (2 ^ 64 - 1)) (answer (record { inventory = summaryIn .«inventory_len»; spill = summaryIn .«spill_len» }))
+    -- these three take no origin, and never say 14
+    pub count-14 : Never 14 (countOf ws len pol)
+    pub plan-14 : Never 14 (planOf ws len pol choice)
+    pub size-14 : Never 14 (sizeOf ws len pol choice)
+    pub build : (cells spill : ℕ) → InOrder (buildOf ws len origin pol choice cells spill) (toSeven cells spill) (answer summaryIn)
     pub check : (t : Summary) (inv sp : List ℕ)
-        → InOrder (checkOf ws len pol choice t inv sp) (toSeven (length inv) (length sp))
+        → InOrder (checkOf ws len origin pol choice t inv sp) (toSeven (length inv) (length sp))
         (answer (sameSummary t summaryIn && sameIndex (posIn ws (summaryIn .plan)) (summaryIn .plan) inv sp))
 
 module _ (ws : List ℕ) (t : Summary) (inv sp : List ℕ) where
   pub record ReadersRefuse : Type 0 where
-    pub select : (r : ℕ) → InOrder (selectOf ws t inv sp r) (indexOrder ws t inv sp ++ ((rankTooLarge (N (t .plan)) r, 8) ∷ [])) (positionOf ws t inv sp r)
-    pub select-10 : (r : ℕ) → Only10 (positionOf ws t inv sp r)
-    pub hint : (r : ℕ) → InOrder (hintOf ws t inv sp r) (indexOrder ws t inv sp ++ ((rankTooLarge (N (t .plan)) r, 8) ∷ [])) (hintAt t inv sp r)
-    pub hint-10 : (r : ℕ) → Only10 (hintAt t inv sp r)
+    pub select : (r : ℕ) → InOrder (selectOf ws t inv sp r) (indexOrder ws t inv sp ++ ((rankTooLarge (N (t .plan)) r, 8) ∷ [])) (sampleOf ws t inv sp r)
+    pub select-10 : (r : ℕ) → Only10 (sampleOf ws t inv sp r)
+    pub hint : (r : ℕ) → InOrder (hintOf ws t inv sp r) (indexOrder ws t inv sp ++ ((rankTooLarge (N (t .plan)) r, 8) ∷ [])) (hintSample t inv sp r)
+    pub hint-10 : (r : ℕ) → Only10 (hintSample t inv sp r)
     -- 10 for a before b, then for a negative dwell
     pub dwell : (a b : ℕ) → InOrder (dwellOf ws t inv sp a b)
         (indexOrder ws t inv sp ++ ((rankTooLarge (N (t .plan)) a, 8) ∷ (rankTooLarge (N (t .plan)) b, 8) ∷ (ranksFall a b, 11) ∷ []))
@@ -104,11 +115,11 @@ module _ (ws : List ℕ) (t : Summary) (inv sp : List ℕ) where
         (indexOrder ws t inv sp ++ ((falls ranks, 12) ∷ (tooFewPlaces lent ranks, 13) ∷ (anyTooLarge (N (t .plan)) ranks, 8) ∷ []))
         (walkOf ws t inv sp ranks)
     pub list-10 : (ranks : List ℕ) → Only10 (walkOf ws t inv sp ranks)
-    -- a refused list writes no position; an empty one is answered where nothing turns the index down
+    -- a refused list writes nothing; an empty one is answered where nothing turns the index down
     pub list-untouched : (ranks places : List ℕ) (n : ℕ) → listOf ws t inv sp ranks (length places) ≡ refused n
         → placesAfter (listOf ws t inv sp ranks (length places)) places ≡ places
     pub list-empty : (lent : ℕ) → firstOf (indexOrder ws t inv sp) ≡ none
-        → listOf ws t inv sp [] lent ≡ answer (record { positions = []; total = 0 })
+        → listOf ws t inv sp [] lent ≡ answer (record { samples = []; total = 0 })
 
 -- in-word select: 8 exactly where the rank is not below the word's ones
 abbrev pub InWordRefuses : Type 0

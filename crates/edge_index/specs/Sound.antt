@@ -8,7 +8,7 @@ use lib.ListN.{length, getD}
 use Rattle.rank_sel.specs.Numbers.{sum}
 use Rattle.rank_sel.specs.Outcome.{answer}
 use Rattle.rank_sel.specs.Rank.{rank}
-use Rattle.bit_record.specs.Record.{selected, bitOf}
+use Rattle.bit_record.specs.Record.{selected, bitOf, sampleAt}
 use Rattle.bit_record.specs.declared.Polarity.{Polarity}
 use Rattle.spacing.specs.Spacing.{N, L, M, planOf}
 use Rattle.spacing.specs.declared.Choice.{Choice}
@@ -69,7 +69,7 @@ module _ (f : ℕ → Bool) (pos : ℕ → ℕ) (p : Parameters) (t : Summary) (
     pub passed : rank f (pos r) ≡ rank f (pos (markRank pos p e k)) + s % 2 ^ qOf pos p e
     pub few : s % 2 ^ qOf pos p e < 2 ^ qOf pos p e
 
-module _ (ws : List ℕ) (len : ℕ) (pol : Polarity) (choice : Choice) (t : Summary) (inv sp : List ℕ) where
+module _ (ws : List ℕ) (len origin : ℕ) (pol : Polarity) (choice : Choice) (t : Summary) (inv sp : List ℕ) where
   abbrev f : ℕ → Bool
   f = selected pol ws len
 
@@ -80,8 +80,11 @@ module _ (ws : List ℕ) (len : ℕ) (pol : Polarity) (choice : Choice) (t : Sum
   p = t .plan
 
   pub record Sound : Type 0 where
-    -- the summary's polarity, len, N, L, M and S are those of record and choice; the cells are there
+    -- the summary's polarity, len, N, L, M and S are those of record and choice, and its origin is the one handed in, from
+    -- which on each position has a sample number; the cells are there
     pub plan : planOf ws len pol choice ≡ answer p
+    pub bitZero : t .origin ≡ origin
+    pub numbered : sampleAt origin len < 2 ^ 62
     pub inventoryLen : t .«inventory_len» ≡ entriesOf p * stride p + 1
     pub inventoryHeld : t .«inventory_len» ≤ length inv
     pub spillHeld : t .«spill_len» ≤ length sp

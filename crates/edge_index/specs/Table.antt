@@ -1,5 +1,5 @@
 -- Records to try: what the definitions give, beside what document 01 and the source say. Its starred lines are marked *.
--- Then lists, beside document 02's W-201.
+-- Then lists, beside document 02's W-201, and origins, beside W-202.
 use mathlib.Core.Bool.{true, false}
 use mathlib.Core.List.{List, [], _∷_, _++_, map}
 use mathlib.Core.Path.{_≡_}
@@ -20,7 +20,7 @@ use Rattle.inventory.specs.Shape.{fromSpan, log2OnesPerSub32}
 use Rattle.inventory.specs.declared.shape.SpanType.the-variants.{U16, U32, U64}
 use Rattle.inventory.specs.declared.summary.Summary.{Summary}
 use Rattle.build_inventory.specs.Build.{checkOf}
-use Rattle.read_inventory.specs.Jump.{selectOf, dwellOf}
+use Rattle.read_inventory.specs.Jump.{selectOf, hintOf, dwellOf, ofInventory, empty, subinventoryOf}
 use Rattle.select_list.specs.List.{Listed, listOf, sumOver}
 use Rattle.select_list.specs.Step.{singleWords}
 use Rattle.edge_index.specs.Promises.{buildAnswers, inventoryHolds}
@@ -49,13 +49,19 @@ parameters pol len num l m s = record {
 abbrev pub A : List ℕ
 A = 0x252 ∷ []
 
--- a summary: a plan and the two cell counts
+-- a summary: a plan, an origin and the two cell counts
+abbrev pub summaryFrom : ℕ → Parameters → ℕ → ℕ → Summary
+summaryFrom origin p cells spilled = record { plan = p; origin = origin; «inventory_len» = cells; «spill_len» = spilled }
+
 abbrev pub summary : Parameters → ℕ → ℕ → Summary
-summary p cells spilled = record { plan = p; «inventory_len» = cells; «spill_len» = spilled }
+summary = summaryFrom 0
 
 -- A's index, ones and zeros, power L 1 maximum 0
+abbrev pub onesFrom : ℕ → Summary
+onesFrom origin = summaryFrom origin (parameters Ones 10 4 1 0 0) 5 0
+
 abbrev pub onesA : Summary
-onesA = summary (parameters Ones 10 4 1 0 0) 5 0
+onesA = onesFrom 0
 
 abbrev pub cellsA : List ℕ
 cellsA = 1 ∷ 0x30000 ∷ 6 ∷ 0x30000 ∷ 10 ∷ []
@@ -64,9 +70,14 @@ abbrev pub zerosA : Summary
 zerosA = summary (parameters Zeros 10 6 1 0 0) 7 0
 
 -- what build answers and leaves in so many lent inventory cells, all ones before, and no spill
+abbrev pub buildsFrom : ℕ → List ℕ → ℕ → Polarity → Choice → ℕ → Outcome Summary × List ℕ
+buildsFrom origin ws len pol choice cells = (
+  buildAnswers ws len origin pol choice (replicate cells (2 ^ 64 - 1)) [],
+  inventoryHolds ws len origin pol choice (replicate cells (2 ^ 64 - 1)) [],
+)
+
 abbrev pub builds : List ℕ → ℕ → Polarity → Choice → ℕ → Outcome Summary × List ℕ
-builds ws len pol choice cells =
-    (buildAnswers ws len pol choice (replicate cells (2 ^ 64 - 1)) [], inventoryHolds ws len pol choice (replicate cells (2 ^ 64 - 1)) [])
+builds = buildsFrom 0
 
 abbrev pub table : List Line
 table =
@@ -128,9 +139,9 @@ table =
     ∷ line (map (selectOf A onesA cellsA []) (0 ∷ 1 ∷ 2 ∷ 3 ∷ [])) (answer 1 ∷ answer 4 ∷ answer 6 ∷ answer 9 ∷ [])
     ∷ line (dwellOf A onesA cellsA [] 0 3) (answer 8)
     -- check
-    ∷ line (checkOf A 10 Ones (Power 1 0) onesA cellsA []) (answer true)
-    ∷ line (checkOf A 10 Ones (Power 1 0) zerosA cellsA []) (answer false)
-    ∷ line (checkOf A 10 Ones (Power 1 0) onesA (1 ∷ 0x30000 ∷ 6 ∷ 0x30000 ∷ 11 ∷ []) []) (answer false)
+    ∷ line (checkOf A 10 0 Ones (Power 1 0) onesA cellsA []) (answer true)
+    ∷ line (checkOf A 10 0 Ones (Power 1 0) zerosA cellsA []) (answer false)
+    ∷ line (checkOf A 10 0 Ones (Power 1 0) onesA (1 ∷ 0x30000 ∷ 6 ∷ 0x30000 ∷ 11 ∷ []) []) (answer false)
     -- the examples of refusals 6, 8, 9, 10 and 11
     ∷ line (selectOf A onesA (1 ∷ 0x30000 ∷ 6 ∷ 0x30000 ∷ []) [] 0) (refused 6)
     ∷ line (selectOf A onesA cellsA [] 4) (refused 8)
@@ -140,9 +151,9 @@ table =
     ∷ []
 
 -- ---- lists
--- what a list answers: so many words read, and the positions
+-- what a list answers: so many words read, and the samples
 abbrev pub gives : ℕ → List ℕ → Outcome Listed
-gives words ps = answer (record { positions = ps; total = words })
+gives words ps = answer (record { samples = ps; total = words })
 
 -- foreign cells: a record of four bits, two ranks, one entry
 abbrev pub foreign : Summary
@@ -165,4 +176,39 @@ lists =
     ∷ line (map (selectOf (0b0010 ∷ []) foreign (0 ∷ 0 ∷ 1 ∷ []) []) (0 ∷ 1 ∷ [])) (answer 1 ∷ answer 1 ∷ [])
     ∷ line (listOf (0b0111 ∷ []) foreign (0 ∷ 1 ∷ 4 ∷ []) [] (0 ∷ 1 ∷ []) 2) (gives 1 (1 ∷ 2 ∷ []))
     ∷ line (listOf (0b0001 ∷ []) foreign (0 ∷ 0 ∷ 4 ∷ []) [] (0 ∷ 1 ∷ []) 2) (gives 1 (0 ∷ 0 ∷ []))
+    ∷ []
+
+-- ---- origins
+-- A's ones from an origin on: what each reader answers
+abbrev pub readFrom : ℕ → List (Outcome ℕ)
+readFrom origin = map (selectOf A (onesFrom origin) cellsA []) (0 ∷ 1 ∷ 2 ∷ 3 ∷ [])
+
+abbrev pub origins : List Line
+origins =
+    -- A, origin 100: cells, the closing one and the dwell stay; jump, hint's mark and list are from the origin on
+    line (buildsFrom 100 A 10 Ones (Power 1 0) 5) (answer (onesFrom 100), cellsA)
+    ∷ line (readFrom 100) (answer 101 ∷ answer 104 ∷ answer 106 ∷ answer 109 ∷ [])
+    ∷ line (hintOf A (onesFrom 100) cellsA [] 3) (answer (record { mark = 109; rank = 3 }))
+    ∷ line (dwellOf A (onesFrom 100) cellsA [] 0 3) (answer 8)
+    ∷ line (subinventoryOf A (onesFrom 100) cellsA [] 3) (ofInventory 3 1)
+    ∷ line (listOf A (onesFrom 100) cellsA [] (0 ∷ 1 ∷ 2 ∷ 3 ∷ []) 4) (gives 1 (101 ∷ 104 ∷ 106 ∷ 109 ∷ []))
+    -- 14: the last that is accepted, the first that is not, no wrap, and an empty record
+    ∷ line (buildsFrom (2 ^ 62 - 11) A 10 Ones (Power 1 0) 5) (answer (onesFrom (2 ^ 62 - 11)), cellsA)
+    ∷ line (buildsFrom (2 ^ 62 - 10) A 10 Ones (Power 1 0) 5) (refused 14, replicate 5 (2 ^ 64 - 1))
+    ∷ line (buildsFrom (2 ^ 64 - 1) A 10 Ones (Power 1 0) 5) (refused 14, replicate 5 (2 ^ 64 - 1))
+    ∷ line (buildsFrom (2 ^ 62) [] 0 Ones Default 1) (refused 14, replicate 1 (2 ^ 64 - 1))
+    -- after 1, before 2
+    ∷ line (buildsFrom (2 ^ 62) A (2 ^ 62) Ones Default 1) (refused 1, replicate 1 (2 ^ 64 - 1))
+    ∷ line (buildsFrom (2 ^ 62) A 65 Ones Default 1) (refused 14, replicate 1 (2 ^ 64 - 1))
+    -- check: another origin is a no, whatever it is; 14 is of the one handed in
+    ∷ line (checkOf A 10 100 Ones (Power 1 0) (onesFrom 100) cellsA []) (answer true)
+    ∷ line (checkOf A 10 100 Ones (Power 1 0) (onesFrom 0) cellsA []) (answer false)
+    ∷ line (checkOf A 10 100 Ones (Power 1 0) (onesFrom (2 ^ 64 - 1)) cellsA []) (answer false)
+    ∷ line (checkOf A 10 (2 ^ 64 - 1) Ones (Power 1 0) (onesFrom (2 ^ 64 - 1)) cellsA []) (refused 14)
+    -- the readers, by the summary's
+    ∷ line (readFrom (2 ^ 62 - 10)) (refused 14 ∷ refused 14 ∷ refused 14 ∷ refused 14 ∷ [])
+    ∷ line (hintOf A (onesFrom (2 ^ 62 - 10)) cellsA [] 3) (refused 14)
+    ∷ line (dwellOf A (onesFrom (2 ^ 62 - 10)) cellsA [] 0 3) (refused 14)
+    ∷ line (subinventoryOf A (onesFrom (2 ^ 62 - 10)) cellsA [] 3) empty
+    ∷ line (listOf A (onesFrom (2 ^ 62 - 10)) cellsA [] (0 ∷ []) 1) (refused 14)
     ∷ []

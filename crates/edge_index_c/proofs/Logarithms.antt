@@ -11,7 +11,7 @@ use lib.ListN.{length, getD}
 use borrow.Author.Tests.{lt-ltb, ne-eqb}
 use Rattle.rank_sel.specs.Outcome.{Outcome, answer, refused, refuseIf, Conditions, refuseBy, andThen}
 use Rattle.rank_sel.proofs.Numbers.{lt-or-le}
-use Rattle.bit_record.specs.Record.{lenTooLarge, tooFewWords, countOf}
+use Rattle.bit_record.specs.Record.{lenTooLarge, originTooLarge, tooFewWords, ofRecordFrom, countOf}
 use Rattle.bit_record.specs.declared.Polarity.{Polarity}
 use Rattle.spacing.specs.Spacing.{N, L, M, S, fixed, power, rule, maxLog2Words, chosenPlan, planOf}
 use Rattle.spacing.specs.declared.Choice.{Choice}
@@ -23,11 +23,12 @@ use Rattle.build_inventory.specs.Build.{fitted, sizeOf, buildFrom, buildOf, sam
 use Rattle.build_inventory.specs.Compare.{sameIndex}
 use Rattle.build_inventory.specs.Positions.{posIn}
 use Rattle.build_inventory.proofs.Outcomes.{admission}
-use Rattle.read_inventory.specs.Jump.{selectOf, hintOf, dwellAt, dwellOf, storeOf, subinventoryOf}
-use Rattle.read_inventory.specs.Read.{hintAt, positionOf}
+use Rattle.read_inventory.specs.Jump.{sampleOf, selectOf, hintSample, hintOf, dwellAt, dwellOf, storeOf, subinventoryOf}
 use Rattle.read_inventory.specs.Tests.{ofIndex, ofRank, ofRanks}
+use Rattle.select_list.specs.List.{ofList, walkOf, listOf}
 use Rattle.edge_index_c.specs.Codes.{cut, choiceBy, choiceAt, summaryBy, summaryAt}
 use Rattle.edge_index_c.specs.Logarithms.{SameChoice, SameAnswers}
+use Rattle.edge_index_c.proofs.Returns.{ap2}
 
 -- ---- a choice
 -- as it was handed in
@@ -73,25 +74,21 @@ module _ (kind value : ℕ) (percentage : Float) (log2 : ℕ) where
   unfolding planOf
   plan-cut ws len pol = ap (andThen (countOf ws len pol)) (fun-ext λ num. chosen-cut pol len num kind value percentage log2)
 
-  -- what follows a plan
-  then-cut : {A : Type 0} (ws : List ℕ) (len : ℕ) (pol : Polarity) (go : Parameters → Outcome A)
-      → andThen (planOf ws len pol (choiceAt kind value percentage log2)) go
-      ≡ andThen (planOf ws len pol (choiceBy same kind value percentage log2)) go
-  then-cut {A} ws len pol go = ap (λ (o : Outcome Parameters). andThen o go) (plan-cut ws len pol)
-
-  build-cut : (ws : List ℕ) (len : ℕ) (pol : Polarity) (cells spill : ℕ)
-      → buildOf ws len pol (choiceAt kind value percentage log2) cells spill
-      ≡ buildOf ws len pol (choiceBy same kind value percentage log2) cells spill
+  build-cut : (ws : List ℕ) (len origin : ℕ) (pol : Polarity) (cells spill : ℕ)
+      → buildOf ws len origin pol (choiceAt kind value percentage log2) cells spill
+      ≡ buildOf ws len origin pol (choiceBy same kind value percentage log2) cells spill
   unfolding buildOf
-  build-cut ws len pol cells spill = then-cut ws len pol (λ p. buildFrom ws p cells spill)
+  build-cut ws len origin pol cells spill =
+      ap (λ (o : Outcome Parameters). andThen (refuseBy (ofRecordFrom ws len origin) o) (λ p. buildFrom ws origin p cells spill))
+      (plan-cut ws len pol)
 
   pub choice-cut : SameChoice (choiceAt kind value percentage log2) (choiceBy same kind value percentage log2)
   unfolding sizeOf checkOf
   choice-cut = record {
     plan = plan-cut;
-    size = λ ws len pol. then-cut ws len pol (λ p. fitted ws p (2 ^ 64 - 1));
+    size = λ ws len pol. ap (λ (o : Outcome Parameters). andThen o (λ p. fitted ws p (2 ^ 64 - 1))) (plan-cut ws len pol);
     build = build-cut;
-    check = λ ws len pol t inv sp. rw (build-cut ws len pol (length inv) (length sp));
+    check = λ ws len origin pol t inv sp. rw (build-cut ws len origin pol (length inv) (length sp));
   }
 
 -- ---- a summary
@@ -125,75 +122,79 @@ over-differs t u o l m s = ⊎-elim (λ (h : 63 < L (t .plan)). simp (ne-eqb (L 
     (⊎-elim (λ (h : 63 < M (t .plan)). simp (ne-eqb (M (t .plan)) (M (u .plan)) (λ e. omega arith), and-false))
     (λ (h : 63 < S (t .plan)). simp (ne-eqb (S (t .plan)) (S (u .plan)) (λ e. omega arith), and-false))) o
 
--- an unlawful summary is 9, where it is neither 1 nor 2
-refusal-of : List ℕ → ℕ → ℕ
-refusal-of ws len = cond (lenTooLarge len) 1 (cond (tooFewWords ws len) 2 9)
+-- an unlawful summary is 9, where it is neither 1, 14 nor 2
+refusal-of : List ℕ → ℕ → ℕ → ℕ
+refusal-of ws len origin = cond (lenTooLarge len) 1 (cond (originTooLarge origin len) 14 (cond (tooFewWords ws len) 2 9))
 
 unlawful-refused : {A : Type 0} (ws : List ℕ) (t : Summary) (inv sp : List ℕ) (cs : Conditions) (rest : Outcome A) → unlawful t ≡ true
-    → refuseBy (ofIndex ws t inv sp ++ cs) rest ≡ refused (refusal-of ws (t .plan .len))
+    → refuseBy (ofIndex ws t inv sp ++ cs) rest ≡ refused (refusal-of ws (t .plan .len) (t .origin))
 unfolding refusal-of
-unlawful-refused {A} ws t inv sp cs rest e = rw e (go (lenTooLarge (t .plan .len)) (tooFewWords ws (t .plan .len)))
+unlawful-refused {A} ws t inv sp cs rest e =
+    rw e (go (lenTooLarge (t .plan .len)) (originTooLarge (t .origin) (t .plan .len)) (tooFewWords ws (t .plan .len)))
   where
-    go : (a b : Bool) → refuseIf {A = A} a 1 (refuseIf b 2 (refused 9)) ≡ refused (cond a 1 (cond b 2 9))
-    go true b = refl
-    go false true = refl
-    go false false = refl
+    go : (a b c : Bool)
+        → refuseIf {A = A} a 1 (refuseIf b 14 (refuseIf c 2 (refused 9))) ≡ refused (cond a 1 (cond b 14 (cond c 2 9)))
+    go true b c = refl
+    go false true c = refl
+    go false false true = refl
+    go false false false = refl
 
--- two summaries of one len that are equal, or both over
+-- two summaries of one len and origin that are equal, or both over
 data Alike (t u : Summary) : Type 0 where
   equal : t ≡ u → Alike t u
-  both : t .plan .len ≡ u .plan .len → Over t → Over u → Alike t u
+  both : t .plan .len ≡ u .plan .len → t .origin ≡ u .origin → Over t → Over u → Alike t u
 
 module _ {t u : Summary} where
   tests-alike : {A : Type 0} → Alike t u → (ws inv sp : List ℕ) (cs : Summary → Conditions) (rest : Summary → Outcome A)
       → refuseBy (ofIndex ws t inv sp ++ cs t) (rest t) ≡ refuseBy (ofIndex ws u inv sp ++ cs u) (rest u)
   tests-alike (equal e) ws inv sp cs rest = ap (λ (z : Summary). refuseBy (ofIndex ws z inv sp ++ cs z) (rest z)) e
-  tests-alike (both e o p) ws inv sp cs rest =
+  tests-alike (both e f o p) ws inv sp cs rest =
       unlawful-refused ws t inv sp (cs t) (rest t) (over-unlawful t o)
-      ∙ ap (λ (n : ℕ). refused (refusal-of ws n)) e
+      ∙ ap2 (λ (n k : ℕ). refused (refusal-of ws n k)) e f
       ∙ sym (unlawful-refused ws u inv sp (cs u) (rest u) (over-unlawful u p))
 
   store-alike : Alike t u → (ws inv sp : List ℕ) (r : ℕ) → subinventoryOf ws t inv sp r ≡ subinventoryOf ws u inv sp r
   unfolding subinventoryOf storeOf hintOf
   store-alike (equal e) ws inv sp r = ap (λ (z : Summary). subinventoryOf ws z inv sp r) e
-  store-alike (both e o p) ws inv sp r =
+  store-alike (both e f o p) ws inv sp r =
       rw (
-        unlawful-refused ws t inv sp (ofRank (N (t .plan)) r) (hintAt t inv sp r) (over-unlawful t o),
-        unlawful-refused ws u inv sp (ofRank (N (u .plan)) r) (hintAt u inv sp r) (over-unlawful u p),
+        unlawful-refused ws t inv sp (ofRank (N (t .plan)) r) (hintSample t inv sp r) (over-unlawful t o),
+        unlawful-refused ws u inv sp (ofRank (N (u .plan)) r) (hintSample u inv sp r) (over-unlawful u p),
       )
 
   verdict-alike : Alike t u → (b : Summary → Bool) (o : Outcome Summary)
       → ((v : Summary) → o ≡ answer v → (L (v .plan) ≤ 63) × (M (v .plan) ≤ maxLog2Words) × (S (v .plan) ≤ 63))
       → andThen o (λ v. answer (sameSummary t v && b v)) ≡ andThen o (λ v. answer (sameSummary u v && b v))
   verdict-alike (equal e) b o small = ap (λ (z : Summary). andThen o (λ v. answer (sameSummary z v && b v))) e
-  verdict-alike (both e x y) b (answer v) small =
+  verdict-alike (both e f x y) b (answer v) small =
       let s = small v refl in
       rw (over-differs t v x (s .0) (s .1) (s .2), over-differs u v y (s .0) (s .1) (s .2))
-  verdict-alike (both e x y) b (refused n) small = refl
+  verdict-alike (both e f x y) b (refused n) small = refl
 
   answers-alike : Alike t u → SameAnswers t u
-  unfolding checkOf selectOf hintOf dwellOf
+  unfolding checkOf selectOf hintOf dwellOf listOf
   answers-alike w = record {
     check =
-        λ ws len pol c inv sp. verdict-alike w (λ v. sameIndex (posIn ws (v .plan)) (v .plan) inv sp)
-        (buildOf ws len pol c (length inv) (length sp))
-        (λ v e. let a = admission ws len pol c (length inv) (length sp) v
+        λ ws len origin pol c inv sp. verdict-alike w (λ v. sameIndex (posIn ws (v .plan)) (v .plan) inv sp)
+        (buildOf ws len origin pol c (length inv) (length sp))
+        (λ v e. let a = admission ws len origin pol c (length inv) (length sp) v
         e .plans in (a .smallL, a .smallM, omega (arith, a .spaced, a .smallL)));
-    select = λ ws inv sp r. tests-alike w ws inv sp (λ z. ofRank (N (z .plan)) r) (λ z. positionOf ws z inv sp r);
-    hint = λ ws inv sp r. tests-alike w ws inv sp (λ z. ofRank (N (z .plan)) r) (λ z. hintAt z inv sp r);
+    select = λ ws inv sp r. tests-alike w ws inv sp (λ z. ofRank (N (z .plan)) r) (λ z. sampleOf ws z inv sp r);
+    hint = λ ws inv sp r. tests-alike w ws inv sp (λ z. ofRank (N (z .plan)) r) (λ z. hintSample z inv sp r);
     store = store-alike w;
     dwell = λ ws inv sp a b. tests-alike w ws inv sp (λ z. ofRanks (N (z .plan)) a b) (λ z. dwellAt ws z inv sp a b);
+    list = λ ws inv sp ranks lent. tests-alike w ws inv sp (λ z. ofList (N (z .plan)) ranks lent) (λ z. walkOf ws z inv sp ranks);
   }
 
 pub summary-cut : (s : List ℕ) → SameAnswers (summaryAt s) (summaryBy same s)
 unfolding summaryAt Over
 summary-cut s = answers-alike
-    (⊎-elim (λ (e : cut (getD s 3 0) ≡ getD s 3 0). ⊎-elim
-    (λ (f : cut (getD s 4 0) ≡ getD s 4 0). ⊎-elim
-    (λ (g : cut (getD s 5 0) ≡ getD s 5 0). equal (simp (e, f, g)))
-    (λ (h : (63 < cut (getD s 5 0)) × (63 < getD s 5 0)). both refl (inr (inr (h .0))) (inr (inr (h .1))))
+    (⊎-elim (λ (e : cut (getD s 4 0) ≡ getD s 4 0). ⊎-elim
+    (λ (f : cut (getD s 5 0) ≡ getD s 5 0). ⊎-elim
+    (λ (g : cut (getD s 6 0) ≡ getD s 6 0). equal (simp (e, f, g)))
+    (λ (h : (63 < cut (getD s 6 0)) × (63 < getD s 6 0)). both refl refl (inr (inr (h .0))) (inr (inr (h .1))))
+    (cut-cases (getD s 6 0)))
+    (λ (h : (63 < cut (getD s 5 0)) × (63 < getD s 5 0)). both refl refl (inr (inl (h .0))) (inr (inl (h .1))))
     (cut-cases (getD s 5 0)))
-    (λ (h : (63 < cut (getD s 4 0)) × (63 < getD s 4 0)). both refl (inr (inl (h .0))) (inr (inl (h .1))))
+    (λ (h : (63 < cut (getD s 4 0)) × (63 < getD s 4 0)). both refl refl (inl (h .0)) (inl (h .1)))
     (cut-cases (getD s 4 0)))
-    (λ (h : (63 < cut (getD s 3 0)) × (63 < getD s 3 0)). both refl (inl (h .0)) (inl (h .1)))
-    (cut-cases (getD s 3 0)))

@@ -53,9 +53,9 @@ abbrev pub sizesAs : ℕ → ℕ → Sizes
 sizesAs inventory spill = record { inventory = inventory; spill = spill }
 
 -- build, where so many cells are lent
-unfoldable pub buildC : List ℕ → ℕ → ℕ → ℕ → ℕ → Float → ℕ → ℕ → ℕ → Outcome Summary
-buildC ws len pol kind value percentage log2 cells spill =
-    ifKnown pol kind (buildOf ws len (polarityAt pol) (choiceAt kind value percentage log2) cells spill)
+unfoldable pub buildC : List ℕ → ℕ → ℕ → ℕ → ℕ → ℕ → Float → ℕ → ℕ → ℕ → Outcome Summary
+buildC ws len origin pol kind value percentage log2 cells spill =
+    ifKnown pol kind (buildOf ws len origin (polarityAt pol) (choiceAt kind value percentage log2) cells spill)
 
 -- a build whose outcome is o returned r and left these cells and numbers
 pub record BuiltC (ws : List ℕ) (o : Outcome Summary) (inv₀ inv sp₀ sp out₀ out : List ℕ) (r : ℕ) : Type 0 where
@@ -73,10 +73,10 @@ verdictOf (answer true) = answer 1
 verdictOf (answer false) = answer 0
 verdictOf (refused n) = refused n
 
-unfoldable pub checkC : List ℕ → ℕ → ℕ → ℕ → ℕ → Float → ℕ → List ℕ → List ℕ → List ℕ → Outcome ℕ
-checkC ws len pol kind value percentage log2 s inv sp =
+unfoldable pub checkC : List ℕ → ℕ → ℕ → ℕ → ℕ → ℕ → Float → ℕ → List ℕ → List ℕ → List ℕ → Outcome ℕ
+checkC ws len origin pol kind value percentage log2 s inv sp =
     ifKnown pol kind
-    (ifRead s (verdictOf (checkOf ws len (polarityAt pol) (choiceAt kind value percentage log2) (summaryAt s) inv sp)))
+    (ifRead s (verdictOf (checkOf ws len origin (polarityAt pol) (choiceAt kind value percentage log2) (summaryAt s) inv sp)))
 
 -- ---- calls on an index
 unfoldable pub selectC : List ℕ → List ℕ → List ℕ → List ℕ → ℕ → Outcome ℕ

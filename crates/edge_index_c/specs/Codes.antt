@@ -42,19 +42,20 @@ choiceBy f kind value percentage log2 =
 unfoldable pub choiceAt : ℕ → ℕ → Float → ℕ → Choice
 choiceAt kind value percentage log2 = choiceBy cut kind value percentage log2
 
--- the eight numbers of a summary. The three logarithms are handed on by f
+-- the nine numbers of a summary, in the header's order. The three logarithms are handed on by f
 abbrev pub summaryBy : (ℕ → ℕ) → List ℕ → Summary
 summaryBy f s = record {
   plan = record {
     polarity = polarityAt (getD s 0 0);
     len = getD s 1 0;
     num = getD s 2 0;
-    «log2_ones_per_inventory» = f (getD s 3 0);
-    «log2_words_per_subinventory» = f (getD s 4 0);
-    «log2_ones_per_sub16» = f (getD s 5 0);
+    «log2_ones_per_inventory» = f (getD s 4 0);
+    «log2_words_per_subinventory» = f (getD s 5 0);
+    «log2_ones_per_sub16» = f (getD s 6 0);
   };
-  «inventory_len» = getD s 6 0;
-  «spill_len» = getD s 7 0;
+  origin = getD s 3 0;
+  «inventory_len» = getD s 7 0;
+  «spill_len» = getD s 8 0;
 }
 
 unfoldable pub summaryAt : List ℕ → Summary
@@ -65,6 +66,7 @@ numbersOf t =
     polarityCode (t .plan .polarity)
     ∷ t .plan .len
     ∷ N (t .plan)
+    ∷ t .origin
     ∷ L (t .plan)
     ∷ M (t .plan)
     ∷ S (t .plan)
@@ -72,6 +74,6 @@ numbersOf t =
     ∷ t .«spill_len»
     ∷ []
 
--- a plan is a summary whose cells are not counted
+-- a plan is a summary from 0 on whose cells are not counted
 abbrev pub uncounted : Parameters → Summary
-uncounted p = record { plan = p; «inventory_len» = 0; «spill_len» = 0 }
+uncounted p = record { plan = p; origin = 0; «inventory_len» = 0; «spill_len» = 0 }

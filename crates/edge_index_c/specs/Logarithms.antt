@@ -9,16 +9,18 @@ use Rattle.spacing.specs.declared.Choice.{Choice}
 use Rattle.inventory.specs.declared.summary.Summary.{Summary}
 use Rattle.build_inventory.specs.Build.{sizeOf, buildOf, checkOf}
 use Rattle.read_inventory.specs.Jump.{selectOf, hintOf, dwellOf, subinventoryOf}
+use Rattle.select_list.specs.List.{listOf}
 
 pub record SameChoice (c d : Choice) : Type 0 where
   pub plan : (ws : List ℕ) (len : ℕ) (pol : Polarity) → planOf ws len pol c ≡ planOf ws len pol d
   pub size : (ws : List ℕ) (len : ℕ) (pol : Polarity) → sizeOf ws len pol c ≡ sizeOf ws len pol d
-  pub build : (ws : List ℕ) (len : ℕ) (pol : Polarity) (cells spill : ℕ) → buildOf ws len pol c cells spill ≡ buildOf ws len pol d cells spill
-  pub check : (ws : List ℕ) (len : ℕ) (pol : Polarity) (t : Summary) (inv sp : List ℕ) → checkOf ws len pol c t inv sp ≡ checkOf ws len pol d t inv sp
+  pub build : (ws : List ℕ) (len origin : ℕ) (pol : Polarity) (cells spill : ℕ) → buildOf ws len origin pol c cells spill ≡ buildOf ws len origin pol d cells spill
+  pub check : (ws : List ℕ) (len origin : ℕ) (pol : Polarity) (t : Summary) (inv sp : List ℕ) → checkOf ws len origin pol c t inv sp ≡ checkOf ws len origin pol d t inv sp
 
 pub record SameAnswers (t u : Summary) : Type 0 where
-  pub check : (ws : List ℕ) (len : ℕ) (pol : Polarity) (c : Choice) (inv sp : List ℕ) → checkOf ws len pol c t inv sp ≡ checkOf ws len pol c u inv sp
+  pub check : (ws : List ℕ) (len origin : ℕ) (pol : Polarity) (c : Choice) (inv sp : List ℕ) → checkOf ws len origin pol c t inv sp ≡ checkOf ws len origin pol c u inv sp
   pub select : (ws inv sp : List ℕ) (r : ℕ) → selectOf ws t inv sp r ≡ selectOf ws u inv sp r
   pub hint : (ws inv sp : List ℕ) (r : ℕ) → hintOf ws t inv sp r ≡ hintOf ws u inv sp r
   pub store : (ws inv sp : List ℕ) (r : ℕ) → subinventoryOf ws t inv sp r ≡ subinventoryOf ws u inv sp r
   pub dwell : (ws inv sp : List ℕ) (a b : ℕ) → dwellOf ws t inv sp a b ≡ dwellOf ws u inv sp a b
+  pub list : (ws inv sp ranks : List ℕ) (lent : ℕ) → listOf ws t inv sp ranks lent ≡ listOf ws u inv sp ranks lent

@@ -24,6 +24,9 @@ use edge_index::Summary;
 // A polarity or a kind that is none. No refusal has this number.
 const BAD_CODE: u32 = 255;
 
+// The numbers of a summary.
+const SUMMARY_NUMBERS: usize = 9;
+
 fn status(refusal: Refusal) -> u32
     ensures { λ r. ⌜ r ≡ numberOf refusal ⌝ }
 {
@@ -83,25 +86,26 @@ pub fn choice_at(kind: u32, value: u64, percentage: f64, log2: u32) -> Choice
     Choice::Fixed(cut(value), log2)
 }
 
-fn summary_at(s: &[u64; 8]) -> Summary
+fn summary_at(s: &[u64; SUMMARY_NUMBERS]) -> Summary
     ensures { λ r. ⌜ r ≡ summaryAt (now (s .entry)) ⌝ }
 {
     let plan = Parameters {
         polarity: polarity_at(s[0]),
         len: s[1],
         num: s[2],
-        log2_ones_per_inventory: cut(s[3]),
-        log2_words_per_subinventory: cut(s[4]),
-        log2_ones_per_sub16: cut(s[5]),
+        log2_ones_per_inventory: cut(s[4]),
+        log2_words_per_subinventory: cut(s[5]),
+        log2_ones_per_sub16: cut(s[6]),
     };
     Summary {
         plan,
-        inventory_len: s[6],
-        spill_len: s[7],
+        origin: s[3],
+        inventory_len: s[7],
+        spill_len: s[8],
     }
 }
 
-fn numbers_of(summary: Summary) -> [u64; 8]
+fn numbers_of(summary: Summary) -> [u64; SUMMARY_NUMBERS]
     ensures { λ r. ⌜ r ≡ numbersOf summary ⌝ }
 {
     let plan = summary.plan;
@@ -110,6 +114,7 @@ fn numbers_of(summary: Summary) -> [u64; 8]
         polarity_code(polarity),
         plan.len,
         plan.num,
+        summary.origin,
         plan.log2_ones_per_inventory as u64,
         plan.log2_words_per_subinventory as u64,
         plan.log2_ones_per_sub16 as u64,
@@ -153,7 +158,7 @@ pub extern "C" fn edge_index_plan(
     value: u64,
     percentage: f64,
     log2: u32,
-    summary: &mut [u64; 8],
+    summary: &mut [u64; SUMMARY_NUMBERS],
 ) -> u32
     ensures { λ r. ⌜ Returned (planC (now (words .entry)) len polarity kind value percentage log2) r (now (summary .entry)) (now (summary .exit)) ⌝ }
 {
@@ -165,6 +170,7 @@ pub extern "C" fn edge_index_plan(
         Planned::Plan(plan) => {
             *summary = numbers_of(Summary {
                 plan,
+                origin: 0,
                 inventory_len: 0,
                 spill_len: 0,
             });
@@ -206,6 +212,7 @@ pub extern "C" fn edge_index_size(
 pub extern "C" fn edge_index_build(
     words: &[u64],
     len: u64,
+    origin: u64,
     polarity: u32,
     kind: u32,
     value: u64,
@@ -213,9 +220,9 @@ pub extern "C" fn edge_index_build(
     log2: u32,
     inventory: &mut [u64],
     spill: &mut [u64],
-    summary: &mut [u64; 8],
+    summary: &mut [u64; SUMMARY_NUMBERS],
 ) -> u32
-    ensures { λ r. ⌜ BuiltC (now (words .entry)) (buildC (now (words .entry)) len polarity kind value percentage log2 (length (now (inventory .entry))) (length (now (spill .entry)))) (now (inventory .entry)) (now (inventory .exit)) (now (spill .entry)) (now (spill .exit)) (now (summary .entry)) (now (summary .exit)) r ⌝ }
+    ensures { λ r. ⌜ BuiltC (now (words .entry)) (buildC (now (words .entry)) len origin polarity kind value percentage log2 (length (now (inventory .entry))) (length (now (spill .entry)))) (now (inventory .entry)) (now (inventory .exit)) (now (spill .entry)) (now (spill .exit)) (now (summary .entry)) (now (summary .exit)) r ⌝ }
 {
     if !is_known(polarity, kind) {
         return BAD_CODE;
@@ -224,6 +231,7 @@ pub extern "C" fn edge_index_build(
     match edge_index::build(
         words,
         len,
+        origin,
         polarity_at(polarity as u64),
         choice,
         inventory,
@@ -252,17 +260,18 @@ fn verdict(told: Checked) -> Answer
 pub extern "C" fn edge_index_check(
     words: &[u64],
     len: u64,
+    origin: u64,
     polarity: u32,
     kind: u32,
     value: u64,
     percentage: f64,
     log2: u32,
-    summary: &[u64; 8],
+    summary: &[u64; SUMMARY_NUMBERS],
     inventory: &[u64],
     spill: &[u64],
     yes: &mut u64,
 ) -> u32
-    ensures { λ r. ⌜ Returned (checkC (now (words .entry)) len polarity kind value percentage log2 (now (summary .entry)) (now (inventory .entry)) (now (spill .entry))) r (now (yes .entry)) (now (yes .exit)) ⌝ }
+    ensures { λ r. ⌜ Returned (checkC (now (words .entry)) len origin polarity kind value percentage log2 (now (summary .entry)) (now (inventory .entry)) (now (spill .entry))) r (now (yes .entry)) (now (yes .exit)) ⌝ }
 {
     if !is_known(polarity, kind) {
         return BAD_CODE;
@@ -274,6 +283,7 @@ pub extern "C" fn edge_index_check(
     let told = edge_index::check(
         words,
         len,
+        origin,
         polarity_at(polarity as u64),
         choice,
         summary_at(summary),
@@ -286,7 +296,7 @@ pub extern "C" fn edge_index_check(
 #[no_mangle]
 pub extern "C" fn edge_index_select(
     words: &[u64],
-    summary: &[u64; 8],
+    summary: &[u64; SUMMARY_NUMBERS],
     inventory: &[u64],
     spill: &[u64],
     rank: u64,
@@ -306,7 +316,7 @@ pub extern "C" fn edge_index_select(
 #[no_mangle]
 pub extern "C" fn edge_index_hint(
     words: &[u64],
-    summary: &[u64; 8],
+    summary: &[u64; SUMMARY_NUMBERS],
     inventory: &[u64],
     spill: &[u64],
     rank: u64,
@@ -331,7 +341,7 @@ pub extern "C" fn edge_index_hint(
 #[no_mangle]
 pub extern "C" fn edge_index_subinventory(
     words: &[u64],
-    summary: &[u64; 8],
+    summary: &[u64; SUMMARY_NUMBERS],
     inventory: &[u64],
     spill: &[u64],
     rank: u64,
@@ -364,7 +374,7 @@ pub extern "C" fn edge_index_subinventory(
 #[no_mangle]
 pub extern "C" fn edge_index_dwell(
     words: &[u64],
-    summary: &[u64; 8],
+    summary: &[u64; SUMMARY_NUMBERS],
     inventory: &[u64],
     spill: &[u64],
     a: u64,
@@ -385,7 +395,7 @@ pub extern "C" fn edge_index_dwell(
 #[no_mangle]
 pub extern "C" fn edge_index_select_list(
     words: &[u64],
-    summary: &[u64; 8],
+    summary: &[u64; SUMMARY_NUMBERS],
     inventory: &[u64],
     spill: &[u64],
     ranks: &[u64],

@@ -20,6 +20,7 @@ const MAX_LOG2_WORDS: u32 = 3;
 enum Word {
     Zeros,
     Samples,
+    Origin,
     Span,
     Power,
     Overhead,
@@ -33,6 +34,7 @@ pub struct Request {
     pub is_zeros: bool,
     pub has_samples: bool,
     pub samples: u64,
+    pub origin: u64,
     pub choice: Choice,
     pub awaits: Word,
     pub has_file: bool,
@@ -99,6 +101,9 @@ fn word_of(text: &[u8]) -> Word {
     if check::same(text, b"--samples") {
         return Word::Samples;
     }
+    if check::same(text, b"--origin") {
+        return Word::Origin;
+    }
     if check::same(text, b"--span") {
         return Word::Span;
     }
@@ -124,6 +129,7 @@ fn with_choice(request: Request, choice: Choice, awaits: Word) -> Request {
         is_zeros: request.is_zeros,
         has_samples: request.has_samples,
         samples: request.samples,
+        origin: request.origin,
         choice,
         awaits,
         has_file: request.has_file,
@@ -143,10 +149,16 @@ fn with_samples(mut request: Request, samples: u64) -> Request {
     awaiting(request, Word::Plain)
 }
 
+fn with_origin(mut request: Request, origin: u64) -> Request {
+    request.origin = origin;
+    awaiting(request, Word::Plain)
+}
+
 // The value of an option that takes a whole number. Every power above 63 is refused alike, so 64 stands for them.
 fn with_number(request: Request, awaits: Word, n: u64) -> Request {
     match awaits {
         Word::Samples => with_samples(request, n),
+        Word::Origin => with_origin(request, n),
         Word::Span => with_choice(request, Choice::Span(n, MAX_LOG2_WORDS), Word::Plain),
         Word::Power => with_choice(
             request,
@@ -278,12 +290,13 @@ fn finish(request: Request, err: i32) -> Asked {
     }
 }
 
-// Standard input, every sample, the default spacing.
+// Standard input, every sample, the first of them number 0, the default spacing.
 fn nothing() -> Request {
     Request {
         is_zeros: false,
         has_samples: false,
         samples: 0,
+        origin: 0,
         choice: Choice::Default,
         awaits: Word::Plain,
         has_file: false,

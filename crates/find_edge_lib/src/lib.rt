@@ -157,6 +157,7 @@ fn show(
 fn answer(
     words: &[u64],
     len: u64,
+    origin: u64,
     polarity: Polarity,
     choice: Choice,
     inventory: &mut [u64],
@@ -166,10 +167,19 @@ fn answer(
     out: i32,
     err: i32,
 ) {
-    match build(words, len, polarity, choice, inventory, spill) {
+    match build(words, len, origin, polarity, choice, inventory, spill) {
         Built::Refused(refusal) => refused(err, refusal),
         Built::Summary(summary) => {
-            match check_index(words, len, polarity, choice, summary, inventory, spill) {
+            match check_index(
+                words,
+                len,
+                origin,
+                polarity,
+                choice,
+                summary,
+                inventory,
+                spill,
+            ) {
                 Checked::Yes => show(words, summary, inventory, spill, edges, n, out, err),
                 Checked::No => report::not_checked(err),
                 Checked::Refused(refusal) => refused(err, refusal),
@@ -213,6 +223,7 @@ fn answer_request(
     answer(
         words,
         len,
+        request.origin,
         polarity,
         choice,
         inventory,

@@ -27,13 +27,14 @@ pub fn usage(fd: i32) {
     say(
         fd,
         b"\
-find_edge [FILE] [EDGE ..] [--zeros] [--samples N]
+find_edge [FILE] [EDGE ..] [--zeros] [--samples N] [--origin N]
           [--span N | --power L | --overhead P] [--help]
 
 FILE          the capture, eight samples to a byte; - or none: standard input
 EDGE          an edge to find, by its number from 0; several in rising order
 --zeros       find the samples without an edge instead
 --samples N   take the first N samples only
+--origin N    number the samples from N on, and not from 0
 --span N      an index entry for about every N samples; the default, N 4096
 --power L     an index entry for every 2^L edges
 --overhead P  aim at an index of P percent of the capture's size, as 12.5
@@ -70,7 +71,7 @@ pub fn unknown_option(fd: i32, text: &[u8]) {
     begin(fd, text);
     say(
         fd,
-        b"' is no option: use --zeros, --samples N, --span N, --power L, --overhead P or --help\n",
+        b"' is no option: use --zeros, --samples N, --origin N, --span N, --power L, --overhead P or --help\n",
     );
 }
 
@@ -190,6 +191,10 @@ fn say_meaning(fd: i32, refusal: Refusal) {
         Refusal::TooFewPlaces => say(
             fd,
             b"there are fewer places than edges asked for: lend more",
+        ),
+        Refusal::OriginTooLarge => say(
+            fd,
+            b"the origin and the number of samples come to over 2^62 - 1: give a smaller --origin",
         ),
     }
 }

@@ -116,5 +116,6 @@ module _ (pos : ℕ → ℕ) (p : Parameters) where
   unfoldable pub spillOf : List ℕ
   spillOf = spillTo (entriesOf p)
 
-  unfoldable pub summaryOf : Summary
-  summaryOf = record { plan = p; «inventory_len» = inventoryLenOf p; «spill_len» = spillStart (entriesOf p) }
+  -- no cell goes by the origin
+  unfoldable pub summaryOf : ℕ → Summary
+  summaryOf origin = record { plan = p; origin = origin; «inventory_len» = inventoryLenOf p; «spill_len» = spillStart (entriesOf p) }

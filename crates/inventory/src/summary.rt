@@ -16,9 +16,10 @@ use rank_sel::saturating_sub;
 use spacing::MAX_LOG2_WORDS_PER_SUBINVENTORY;
 use spacing::Parameters;
 
-// What document 01 calls the summary: a plan and the two cell counts.
+// What document 01 calls the summary: a plan and the two cell counts; and the sample number of bit 0, document 02's origin.
 pub struct Summary {
     pub plan: Parameters,
+    pub origin: u64,
     pub inventory_len: u64,
     pub spill_len: u64,
 }

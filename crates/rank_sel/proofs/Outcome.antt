@@ -2,10 +2,11 @@
 use mathlib.Core.Bool.{Bool, true, false}
 use mathlib.Core.Logic.{_↔_}
 use mathlib.Core.List.{[], _∷_, _++_}
+use mathlib.Core.Option.{Option, none, some}
 use mathlib.Core.Path.{_≡_, refl, sym, ap, _∙_}
 use Prim.Native.Nat.{ℕ}
 use native.Mathlib.Omega.{arith}
-use Rattle.rank_sel.specs.Outcome.{Outcome, answer, refused, numberOf, refuseIf, Conditions, refuseBy, testBy, NoneOf, tested, reasonOf, andThen}
+use Rattle.rank_sel.specs.Outcome.{Outcome, answer, refused, numberOf, refuseIf, orRefuse, Conditions, refuseBy, testBy, NoneOf, tested, reasonOf, andThen}
 use Rattle.rank_sel.specs.declared.Refusal.{Refusal}
 use Rattle.rank_sel.specs.declared.Tested.{Tested}
 use Rattle.rank_sel.specs.declared.Tested.the-variants.{Passed, Refused}
@@ -32,6 +33,11 @@ not-refused false n o a e = (refl, e)
 pub refused-holds : {A : Type 0} (t : Bool) (n : ℕ) (a : A) (m : ℕ) → refuseIf t n (answer a) ≡ refused m → t ≡ true
 refused-holds true n a m e = refl
 refused-holds false n a m e = never (sym e)
+
+-- an answer was there
+pub is-some : {A : Type 0} (n : ℕ) (o : Option A) (a : A) → orRefuse n o ≡ answer a → o ≡ some a
+is-some n (some b) a e = ap some (answer-is e)
+is-some n none a e = never e
 
 -- one step after another
 pub then-then : {A B C : Type 0} (o : Outcome A) (f : A → Outcome B) (g : B → Outcome C)
@@ -90,6 +96,16 @@ passed-all (c ∷ cs) o a e =
 pub passing : {A : Type 0} (cs : Conditions) (rest : Outcome A) → NoneOf cs → refuseBy cs rest ≡ rest
 passing [] rest h = refl
 passing (c ∷ cs) rest h = rw (h .0) (passing cs rest (h .1))
+
+-- what comes after them matters only where they are passed
+pub tests-past : {A : Type 0} (cs : Conditions) (o q : Outcome A) → (NoneOf cs → o ≡ q) → refuseBy cs o ≡ refuseBy cs q
+tests-past [] o q h = h tt
+tests-past (c ∷ cs) o q h = go (c .0) (λ e. tests-past cs o q (λ k. h (e, k))) refl
+  where
+    go : (b : Bool) → (c .0 ≡ false → refuseBy cs o ≡ refuseBy cs q) → c .0 ≡ b
+        → refuseIf (c .0) (c .1) (refuseBy cs o) ≡ refuseIf (c .0) (c .1) (refuseBy cs q)
+    go true ih e = rw e
+    go false ih e = rw e (ih e)
 
 pub none-split : (cs ds : Conditions) → NoneOf (cs ++ ds) → NoneOf cs × NoneOf ds
 none-split [] ds h = (tt, h)

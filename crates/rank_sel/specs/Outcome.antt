@@ -7,7 +7,7 @@ use Prim.Native.Nat.{ℕ}
 use Rattle.rank_sel.specs.declared.Answer.{Answer}
 use Rattle.rank_sel.specs.declared.Answer.the-variants.{Value, Refused}
 use Rattle.rank_sel.specs.declared.Refusal.{Refusal}
-use Rattle.rank_sel.specs.declared.Refusal.the-variants.{LenTooLarge, TooFewWords, OnesPerInventoryTooLarge, WordsPerSubinventoryTooLarge, OverheadNotPositive, InventoryTooShort, SpillTooShort, RankTooLarge, SummaryUnlawful, CellsUnlawful, RanksFall, ListFalls, TooFewPlaces}
+use Rattle.rank_sel.specs.declared.Refusal.the-variants.{LenTooLarge, TooFewWords, OnesPerInventoryTooLarge, WordsPerSubinventoryTooLarge, OverheadNotPositive, InventoryTooShort, SpillTooShort, RankTooLarge, SummaryUnlawful, CellsUnlawful, RanksFall, ListFalls, TooFewPlaces, OriginTooLarge}
 use Rattle.rank_sel.specs.declared.Tested.{Tested}
 use Rattle.rank_sel.specs.declared.Tested.the-variants as Tested·v
 
@@ -30,6 +30,7 @@ numberOf CellsUnlawful = 10
 numberOf RanksFall = 11
 numberOf ListFalls = 12
 numberOf TooFewPlaces = 13
+numberOf OriginTooLarge = 14
 
 abbrev pub answered : Answer → Outcome ℕ
 answered (Value n) = answer n

@@ -20,10 +20,11 @@ pub enum Refusal {
     RanksFall,
     ListFalls,
     TooFewPlaces,
+    OriginTooLarge,
 }
 
 // The rows, in their order.
-pub const REFUSAL_COUNT: usize = 13;
+pub const REFUSAL_COUNT: usize = 14;
 
 pub const REFUSALS: [Refusal; REFUSAL_COUNT] = [
     Refusal::LenTooLarge,
@@ -39,6 +40,7 @@ pub const REFUSALS: [Refusal; REFUSAL_COUNT] = [
     Refusal::RanksFall,
     Refusal::ListFalls,
     Refusal::TooFewPlaces,
+    Refusal::OriginTooLarge,
 ];
 
 // A number, or what the call was turned down for.
@@ -82,6 +84,7 @@ pub fn refusal_number(refusal: Refusal) -> u64
         Refusal::RanksFall => 11,
         Refusal::ListFalls => 12,
         Refusal::TooFewPlaces => 13,
+        Refusal::OriginTooLarge => 14,
     }
 }
 

@@ -7,15 +7,17 @@ use native.Mathlib.Nat.{mod-le}
 use native.Mathlib.Omega.{arith}
 use lib.Dec.{leb, ltb}
 use borrow.Author.Tests.{ltb-false, leb-false}
-use Rattle.rank_sel.specs.Outcome.{Outcome, answer, refused, refuseIf, andThen}
-use Rattle.rank_sel.proofs.Outcome.{answer-is, not-refused, then-answer}
-use Rattle.bit_record.specs.Record.{selected}
+use Rattle.rank_sel.specs.Outcome.{Outcome, answer, refused, refuseIf, orRefuse, andThen}
+use Rattle.rank_sel.specs.Seek.{seek}
+use Rattle.rank_sel.proofs.Outcome.{answer-is, is-some, not-refused, then-answer}
+use Rattle.rank_sel.proofs.Seek.{seek-found}
+use Rattle.bit_record.specs.Record.{selected, sampleAt}
 use Rattle.spacing.specs.Spacing.{L, M}
 use Rattle.inventory.specs.Index.{stride}
 use Rattle.inventory.specs.Shape.{nearBy}
 use Rattle.inventory.specs.declared.shape.Shape.{Shape}
 use Rattle.inventory.specs.declared.summary.Summary.{Summary}
-use Rattle.read_inventory.specs.Jump.{dwellBy, dwellAt}
+use Rattle.read_inventory.specs.Jump.{sampleOf, hintSample, dwellBy, dwellAt}
 use Rattle.read_inventory.specs.Read.{cellAt, kindAt, spanAt, quantumAt, shapeAt, start, own, over, placeBy, placeAt, numberAt, spanTooSmall, markAt, entryOfRank, markNumber, residual, isU64, Mark, markOfRank, Hint, hintAt, finish, positionOf}
 use Rattle.read_inventory.specs.Steps.{isOver, decodedBy, decodeOf, marked, MarkLow}
 use Rattle.read_inventory.specs.declared.decode.Decoded.{Decoded}
@@ -63,13 +65,17 @@ module _ {t : Summary} {inv sp : List ℕ} {r : ℕ} {o : Marked} (w : MarkRead 
   unfolding positionOf
   position-by ws = ap (λ (x : Outcome Mark). andThen x (finish (selected (t .plan .polarity) ws (t .plan .len)) (t .plan .len))) (w .told)
 
-  pub hint-at : (p k : ℕ) (b : Bool) → o ≡ Marked·v.At p k b → answer (record { mark = p; rank = r - k }) ≡ hintAt t inv sp r
-  unfolding hintAt
+  pub hint-at : (p k : ℕ) (b : Bool) → o ≡ Marked·v.At p k b
+      → answer (record { mark = sampleAt (t .origin) p; rank = r - k }) ≡ hintSample t inv sp r
+  unfolding hintAt hintSample
   hint-at p k b e = rw (← w .told, e)
 
-  pub hint-none : o ≡ Marked·v.Refused → refused 10 ≡ hintAt t inv sp r
-  unfolding hintAt
+  pub hint-none : o ≡ Marked·v.Refused → refused 10 ≡ hintSample t inv sp r
+  unfolding hintAt hintSample
   hint-none e = rw (← w .told, e)
+
+  pub mark-below : (p k : ℕ) (b : Bool) → o ≡ Marked·v.At p k b → p < t .plan .len
+  mark-below p k b e = mark-low t inv sp r (record { at = p; residual = k; exact = b }) (sym (w .told) ∙ ap marked e)
 
   pub passes-few : (p k : ℕ) (b : Bool) → o ≡ Marked·v.At p k b → k ≤ r
   passes-few p k b e = residue-low t inv sp r (record { at = p; residual = k; exact = b }) (sym (w .told) ∙ ap marked e)
@@ -77,6 +83,35 @@ module _ {t : Summary} {inv sp : List ℕ} {r : ℕ} {o : Marked} (w : MarkRead 
 pub low-by : {t : Summary} {inv sp : List ℕ} {r : ℕ} {o : Marked} → MarkRead t inv sp r o → MarkLow (t .plan) o
 low-by {t} {inv} {sp} {r} {o = Marked·v.At p k b} w = mark-low t inv sp r (record { at = p; residual = k; exact = b }) (sym (w .told))
 low-by {t} {inv} {sp} {r} {o = Marked·v.Refused} w = tt
+
+-- ---- a position, and its sample number
+module _ (ws : List ℕ) (t : Summary) (inv sp : List ℕ) (r : ℕ) where
+  pub position-low : (p : ℕ) → positionOf ws t inv sp r ≡ answer p → p < t .plan .len
+  unfolding positionOf
+  position-low p e =
+      let a = then-answer (markOfRank t inv sp r) (finish f len) p e in
+      go (a .0) (mark-low t inv sp r (a .0) (a .1)) (a .0 .exact) (a .2)
+    where
+      len : ℕ
+      len = t .plan .len
+
+      f : ℕ → Bool
+      f = selected (t .plan .polarity) ws len
+
+      go : (m : Mark) → m .at < len → (b : Bool)
+          → cond b (answer (m .at)) (orRefuse 10 (seek f (len - m .at) (m .at) (m .residual))) ≡ answer p → p < len
+      go m l true d = omega (arith, answer-is d)
+      go m l false d =
+          let s = seek-found f (len - m .at) (m .at) (m .residual) p (is-some 10 _ p d) in
+          omega (arith, s .high)
+
+  pub sample-stops : (o : Outcome ℕ) (n : ℕ) → o ≡ positionOf ws t inv sp r → o ≡ refused n → o ≡ sampleOf ws t inv sp r
+  unfolding sampleOf
+  sample-stops o n e d = rw (← e, d)
+
+  pub sample-is : (p : ℕ) → answer p ≡ positionOf ws t inv sp r → answer (sampleAt (t .origin) p) ≡ sampleOf ws t inv sp r
+  unfolding sampleOf
+  sample-is p e = rw (← e)
 
 -- ---- the positions of two ranks
 module _ (ws : List ℕ) (t : Summary) (inv sp : List ℕ) (a b : ℕ) where
@@ -144,12 +179,12 @@ module _ {t : Summary} {inv sp : List ℕ} {r : ℕ} {d : Decoded} (w : ReadAs t
 -- ---- hint by what is decoded
 module _ (t : Summary) (inv sp : List ℕ) (r : ℕ) where
   pub hint-decoded : (d : Decoded) → decodeOf t inv sp r ≡ answer d
-      → hintAt t inv sp r ≡ answer (record { mark = d .mark; rank = r - d .residual })
-  unfolding hintAt
+      → hintSample t inv sp r ≡ answer (record { mark = sampleAt (t .origin) (d .mark); rank = r - d .residual })
+  unfolding hintAt hintSample
   hint-decoded d e = rw (← decoded-marks t inv sp r (answer d) (sym e))
 
-  pub hint-undecoded : decodeOf t inv sp r ≡ refused 10 → hintAt t inv sp r ≡ refused 10
-  unfolding hintAt
+  pub hint-undecoded : decodeOf t inv sp r ≡ refused 10 → hintSample t inv sp r ≡ refused 10
+  unfolding hintAt hintSample
   hint-undecoded e = rw (← decoded-marks t inv sp r (refused 10) (sym e))
 
   -- and the mark by the hint

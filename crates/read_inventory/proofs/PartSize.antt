@@ -14,7 +14,7 @@ use Rattle.inventory.specs.Index.{ranksOf}
 use Rattle.inventory.specs.declared.summary.Summary.{Summary}
 use Rattle.inventory.proofs.Entries.{marks-fit}
 use Rattle.inventory.proofs.Ranks.{mark-among, ranks-most, rank-sub}
-use Rattle.read_inventory.specs.Jump.{hintOf, Part, ofInventory, ofSpill, empty, storeOf, orEmpty, subinventoryOf, PartIn, cellsOf, cellCount}
+use Rattle.read_inventory.specs.Jump.{hintSample, hintOf, Part, ofInventory, ofSpill, empty, storeOf, orEmpty, subinventoryOf, PartIn, cellsOf, cellCount}
 use Rattle.read_inventory.specs.Read.{kindAt, startAt, spanAt, quantumAt, shapeAt, spilledAt, markAt, entryOfRank, markNumber, markOfRank, Hint, hintAt}
 use Rattle.read_inventory.specs.Steps.{decodedBy}
 use Rattle.read_inventory.specs.Tests.{ofIndex, ofRank}
@@ -60,10 +60,11 @@ part-length inv sp empty h = refl
 
 module _ (ws : List ℕ) (t : Summary) (inv sp : List ℕ) (r : ℕ) where
   stored : (h : Hint) → hintOf ws t inv sp r ≡ answer h → (p : ℕ) × Stored ws t inv sp r (decodedBy t inv r p)
-  unfolding hintOf hintAt markOfRank
+  unfolding hintOf hintSample hintAt markOfRank
   stored h e =
-      let w = passed-all (ofIndex ws t inv sp ++ ofRank (N (t .plan)) r) (hintAt t inv sp r) h e in
-      let m = then-answer (markOfRank t inv sp r) _ h (w .1) in
+      let w = passed-all (ofIndex ws t inv sp ++ ofRank (N (t .plan)) r) (hintSample t inv sp r) h e in
+      let g = then-answer (hintAt t inv sp r) _ h (w .1) in
+      let m = then-answer (markOfRank t inv sp r) _ (g .0) (g .1) in
       let p = then-answer (markAt t inv sp (entryOfRank t r) (markNumber t inv r)) _ (m .0) (m .1) in
       (p .0, record { readable = call-readable ws t inv sp r (w .0); read = record { mark = p .1; is = refl }; hint = h; hinted = e })
 

@@ -8,42 +8,42 @@ use Rattle.rank_sel.specs.declared.Refusal.{Refusal}
 use Rattle.rank_sel.specs.declared.Tested.{Tested}
 use Rattle.rank_sel.specs.declared.Tested.the-variants.{Passed, Refused}
 use Rattle.rank_sel.proofs.Outcome.{none-split, none-join, Tells, passed-none, passed-then, stopped-then}
-use Rattle.bit_record.specs.Record.{ofRecord, Admitted}
-use Rattle.bit_record.proofs.Counted.{admitted, admitted-none}
+use Rattle.bit_record.specs.Record.{ofRecordFrom, AdmittedFrom}
+use Rattle.bit_record.proofs.Counted.{admitted-from, admitted-from-none}
 use Rattle.spacing.specs.Spacing.{N}
 use Rattle.inventory.specs.Lawful.{ofSummary, Lawful}
 use Rattle.inventory.specs.declared.summary.Summary.{Summary}
 use Rattle.inventory.proofs.Lawful.{lawful, lawful-none}
-use Rattle.read_inventory.specs.Jump.{selectOf, hintOf, dwellAt, dwellOf}
-use Rattle.read_inventory.specs.Read.{hintAt, positionOf}
+use Rattle.read_inventory.specs.Jump.{sampleOf, selectOf, hintSample, hintOf, dwellAt, dwellOf}
 use Rattle.read_inventory.specs.Tests.{ofCells, ofIndex, ofRank, ofRanks, CellsHeld, Readable}
 
 module _ (ws : List ℕ) (t : Summary) (inv sp : List ℕ) where
   -- record, summary and cells
   pub record IndexHeld : Type 0 where
-    pub admitted : Admitted ws (t .plan .len)
+    pub from : AdmittedFrom ws (t .plan .len) (t .origin)
     pub lawful : Lawful t
     pub held : CellsHeld t inv sp
 
 module _ (ws : List ℕ) (t : Summary) (inv sp : List ℕ) where
   pub index-held : NoneOf (ofIndex ws t inv sp) → IndexHeld ws t inv sp
   index-held h =
-      let s = none-split (ofRecord ws (t .plan .len)) (ofSummary t ++ ofCells t inv sp) h in
+      let s = none-split (ofRecordFrom ws (t .plan .len) (t .origin)) (ofSummary t ++ ofCells t inv sp) h in
       let u = none-split (ofSummary t) (ofCells t inv sp) (s .1) in
       record {
-        admitted = admitted ws (t .plan .len) (s .0);
+        from = admitted-from ws (t .plan .len) (t .origin) (s .0);
         lawful = lawful t (u .0 .0);
         held = record { own = ltb-false _ _ (u .1 .0); over = ltb-false _ _ (u .1 .1 .0) };
       }
 
   pub index-none : IndexHeld ws t inv sp → NoneOf (ofIndex ws t inv sp)
   index-none i =
-      none-join (ofRecord ws (t .plan .len)) (ofSummary t ++ ofCells t inv sp) (admitted-none ws (t .plan .len) (i .admitted))
+      none-join (ofRecordFrom ws (t .plan .len) (t .origin)) (ofSummary t ++ ofCells t inv sp)
+      (admitted-from-none ws (t .plan .len) (t .origin) (i .from))
       (none-join (ofSummary t) (ofCells t inv sp) (lawful-none t (i .lawful), tt)
       (le-ltb _ _ (i .held .own), (le-ltb _ _ (i .held .over), tt)))
 
   pub readable : IndexHeld ws t inv sp → (r : ℕ) → r < N (t .plan) → Readable t inv sp r
-  readable i r l = record { short = i .admitted .short; lawful = i .lawful; held = i .held; below = l }
+  readable i r l = record { short = i .from .admitted .short; lawful = i .lawful; held = i .held; below = l }
 
   -- an index and a rank
   module _ (r : ℕ) (h : NoneOf (ofIndex ws t inv sp ++ ofRank (N (t .plan)) r)) where
@@ -68,21 +68,21 @@ module _ {ws : List ℕ} {t : Summary} {inv sp : List ℕ} {r : ℕ} {x : Tested
   called-readable e = call-readable ws t inv sp r (passed-none tells e)
 
   -- past the tests the entries are what the cells say; else they refuse as the tests do
-  pub select-passed : x ≡ Passed → positionOf ws t inv sp r ≡ selectOf ws t inv sp r
+  pub select-passed : x ≡ Passed → sampleOf ws t inv sp r ≡ selectOf ws t inv sp r
   unfolding selectOf
-  select-passed e = passed-then tells e (positionOf ws t inv sp r)
+  select-passed e = passed-then tells e (sampleOf ws t inv sp r)
 
-  pub hint-passed : x ≡ Passed → hintAt t inv sp r ≡ hintOf ws t inv sp r
+  pub hint-passed : x ≡ Passed → hintSample t inv sp r ≡ hintOf ws t inv sp r
   unfolding hintOf
-  hint-passed e = passed-then tells e (hintAt t inv sp r)
+  hint-passed e = passed-then tells e (hintSample t inv sp r)
 
   pub select-stopped : {q : Refusal} (y : Refusal) → x ≡ Refused q → y ≡ reasonOf x → refused (numberOf y) ≡ selectOf ws t inv sp r
   unfolding selectOf
-  select-stopped y e ey = stopped-then tells y e ey (positionOf ws t inv sp r)
+  select-stopped y e ey = stopped-then tells y e ey (sampleOf ws t inv sp r)
 
   pub hint-stopped : {q : Refusal} (y : Refusal) → x ≡ Refused q → y ≡ reasonOf x → refused (numberOf y) ≡ hintOf ws t inv sp r
   unfolding hintOf
-  hint-stopped y e ey = stopped-then tells y e ey (hintAt t inv sp r)
+  hint-stopped y e ey = stopped-then tells y e ey (hintSample t inv sp r)
 
 -- ---- an index and the ranks of a dwell
 pub record DwellCalled (ws : List ℕ) (t : Summary) (inv sp : List ℕ) (a b : ℕ) (x : Tested) : Type 0 where

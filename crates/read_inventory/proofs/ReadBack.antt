@@ -61,9 +61,10 @@ module _ (pos : ℕ → ℕ) (p : Parameters) (g : Rising pos p) (spaced : S p �
   unfolding startOf
   start-small e = bound-small pos p g (e * 2 ^ L p)
 
-  module _ (inv sp : List ℕ) (w : Placed pos p inv sp) where
+  -- from any origin on: what the cells say goes by none
+  module _ (origin : ℕ) (inv sp : List ℕ) (w : Placed pos p inv sp) where
     abbrev t : Summary
-    t = summaryOf pos p
+    t = summaryOf pos p origin
 
     first-cell : (e : ℕ) → e < entriesOf p
         → getD inv (e * stride p + 0) 0 ≡ startOf pos p e + shapeOf (kindOf pos p e) (startOf pos p e) .tag

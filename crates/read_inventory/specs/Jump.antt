@@ -6,6 +6,7 @@ use lib.Dec.{ltb}
 use lib.ListN.{length, take, drop}
 use denote.Ref.{RefT, ptr}
 use Rattle.rank_sel.specs.Outcome.{Outcome, answer, refused, numberOf, refuseIf, refuseBy, andThen}
+use Rattle.bit_record.specs.Record.{sampleAt}
 use Rattle.spacing.specs.Spacing.{N, M}
 use Rattle.inventory.specs.Index.{stride}
 use Rattle.inventory.specs.declared.summary.Summary.{Summary}
@@ -16,19 +17,30 @@ use Rattle.read_inventory.specs.declared.jump.CellPart.the-variants as C
 use Rattle.read_inventory.specs.declared.jump.Hinted.{Hinted}
 use Rattle.read_inventory.specs.declared.jump.Hinted.the-variants as Hinted·v
 
--- ---- jump and hint
+-- ---- jump and hint: positions are read, and sample numbers answered
+-- past the tests
+unfoldable pub sampleOf : List ℕ → Summary → List ℕ → List ℕ → ℕ → Outcome ℕ
+sampleOf ws t inv sp r = andThen (positionOf ws t inv sp r) (λ p. answer (sampleAt (t .origin) p))
+
 unfoldable pub selectOf : List ℕ → Summary → List ℕ → List ℕ → ℕ → Outcome ℕ
-selectOf ws t inv sp r = refuseBy (ofIndex ws t inv sp ++ ofRank (N (t .plan)) r) (positionOf ws t inv sp r)
+selectOf ws t inv sp r = refuseBy (ofIndex ws t inv sp ++ ofRank (N (t .plan)) r) (sampleOf ws t inv sp r)
+
+-- of a hint, the mark is a sample, and its rank is not
+abbrev pub hintFrom : ℕ → Hint → Hint
+hintFrom origin h = record { mark = sampleAt origin (h .mark); rank = h .rank }
+
+unfoldable pub hintSample : Summary → List ℕ → List ℕ → ℕ → Outcome Hint
+hintSample t inv sp r = andThen (hintAt t inv sp r) (λ h. answer (hintFrom (t .origin) h))
 
 unfoldable pub hintOf : List ℕ → Summary → List ℕ → List ℕ → ℕ → Outcome Hint
-hintOf ws t inv sp r = refuseBy (ofIndex ws t inv sp ++ ofRank (N (t .plan)) r) (hintAt t inv sp r)
+hintOf ws t inv sp r = refuseBy (ofIndex ws t inv sp ++ ofRank (N (t .plan)) r) (hintSample t inv sp r)
 
 abbrev pub hinted : Hinted → Outcome Hint
 hinted (Hinted·v.Mark p r) = answer (record { mark = p; rank = r })
 hinted (Hinted·v.Refused r) = refused (numberOf r)
 
 -- ---- dwell
--- position(b) - position(a); a negative one is 10
+-- position(b) - position(a), the same from any origin on; a negative one is 10
 abbrev pub dwellBy : ℕ → ℕ → Outcome ℕ
 dwellBy a b = refuseIf (ltb b a) 10 (answer (b - a))
 

@@ -1,11 +1,11 @@
--- The tests of a call on an index: 1, 2, 9, 6, 7, then those of its ranks. Document 01, "When a call is turned down".
+-- The tests of a call on an index: 1, 14, 2, 9, 6, 7, then those of its ranks. Document 01, "When a call is turned down".
 use mathlib.Core.Bool.{Bool}
 use mathlib.Core.List.{List, [], _∷_, _++_}
 use Prim.Native.Nat.{ℕ, _^_, _≤_, _<_}
 use lib.Dec.{leb, ltb}
 use lib.ListN.{length}
 use Rattle.rank_sel.specs.Outcome.{Conditions}
-use Rattle.bit_record.specs.Record.{ofRecord}
+use Rattle.bit_record.specs.Record.{ofRecordFrom}
 use Rattle.spacing.specs.Spacing.{N}
 use Rattle.inventory.specs.Lawful.{ofSummary, Lawful}
 use Rattle.inventory.specs.declared.summary.Summary.{Summary}
@@ -30,7 +30,7 @@ ofCells t inv sp = (inventoryTooShort t inv, 6) ∷ (spillTooShort t sp, 7) ∷ 
 
 -- every call on an index
 abbrev pub ofIndex : List ℕ → Summary → List ℕ → List ℕ → Conditions
-ofIndex ws t inv sp = ofRecord ws (t .plan .len) ++ (ofSummary t ++ ofCells t inv sp)
+ofIndex ws t inv sp = ofRecordFrom ws (t .plan .len) (t .origin) ++ (ofSummary t ++ ofCells t inv sp)
 
 abbrev pub ofRank : ℕ → ℕ → Conditions
 ofRank num r = (rankTooLarge num r, 8) ∷ []

@@ -19,6 +19,7 @@ use crate::tests::test_call;
 use crate::tests::test_dwell;
 use bit_record::RecordSeek;
 use bit_record::is_selected;
+use bit_record::sample_at;
 use bit_record::seek_from;
 use inventory::Summary;
 use inventory::entry_ranks;
@@ -70,7 +71,7 @@ fn finish(words: &[u64], plan: Parameters, marked: Marked) -> Answer
     seek_mark(words, plan, mark, residual)
 }
 
-// Jump: the position of a rank.
+// Jump: the sample number of a rank's position.
 pub fn select(
     words: &[u64],
     summary: Summary,
@@ -85,10 +86,14 @@ pub fn select(
         return Answer::Refused(reason(tested));
     };
     let plan = summary.plan;
-    finish(words, plan, mark_of(summary, inventory, spill, rank))
+    let found = finish(words, plan, mark_of(summary, inventory, spill, rank));
+    let Answer::Value(position) = found else {
+        return found;
+    };
+    Answer::Value(sample_at(summary.origin, position))
 }
 
-// Hint: a rank's mark and the mark's rank. It looks for no bit, so it can answer where jump says 10.
+// Hint: the sample number of a rank's mark, and the mark's rank. It looks for no bit, so it can answer where jump says 10.
 pub fn hint(words: &[u64], summary: Summary, inventory: &[u64], spill: &[u64], rank: u64) -> Hinted
     ensures { λ r. ⌜ hinted r ≡ hintOf (now (words .entry)) summary (now (inventory .entry)) (now (spill .entry)) rank ⌝ }
 {
@@ -99,7 +104,7 @@ pub fn hint(words: &[u64], summary: Summary, inventory: &[u64], spill: &[u64], r
     let Marked::At(mark, residual, _) = mark_of(summary, inventory, spill, rank) else {
         return Hinted::Refused(Refusal::CellsUnlawful);
     };
-    Hinted::Mark(mark, rank - residual)
+    Hinted::Mark(sample_at(summary.origin, mark), rank - residual)
 }
 
 // The cells that the entry of a decoded rank spills, by the build's rule for what was read.

@@ -1,5 +1,5 @@
-// Runs document 01's "Records to try", its examples of refusals and document 02's lists through the library; what it writes
-// is held to stdout.
+// Runs document 01's "Records to try", its examples of refusals and document 02's lists and origins through the library; what it
+// writes is held to stdout.
 ghost use mathlib.Core.Path.{_≡_};
 ghost use lib.ListN.{length};
 use edge_index::Answer;
@@ -252,7 +252,7 @@ fn show_hint(hinted: Hinted) {
     }
 }
 
-// The summary of a plan that the caller writes out.
+// The summary, from 0 on, of a plan that the caller writes out.
 fn summary_of(
     polarity: Polarity,
     len: u64,
@@ -272,6 +272,7 @@ fn summary_of(
     };
     Summary {
         plan,
+        origin: 0,
         inventory_len,
         spill_len,
     }
@@ -294,7 +295,7 @@ fn show_index(
     say(b"build ");
     say(name);
     say(b": ");
-    show_built(build(words, len, polarity, choice, inventory, spill));
+    show_built(build(words, len, 0, polarity, choice, inventory, spill));
     say(b"  inventory");
     end_cells(inventory);
     say(b"  spill");
@@ -679,19 +680,21 @@ fn changed(summary: Summary, field: u32) -> Summary {
     }
     Summary {
         plan,
+        origin: summary.origin,
         inventory_len,
         spill_len,
     }
 }
 
 // A's ones, power 1, 0, and C's, against a summary and cells handed in.
-fn check_a(summary: Summary, cells: &[u64]) {
+fn check_a_from(origin: u64, summary: Summary, cells: &[u64]) {
     let a = [0x252u64];
     let none = [0u64; 0];
     say(b"check A: ");
     show_checked(check(
         &a,
         10,
+        origin,
         Polarity::Ones,
         Choice::Power(1, 0),
         summary,
@@ -700,12 +703,17 @@ fn check_a(summary: Summary, cells: &[u64]) {
     ));
 }
 
+fn check_a(summary: Summary, cells: &[u64]) {
+    check_a_from(0, summary, cells)
+}
+
 fn check_c(summary: Summary, cells: &[u64], spill: &[u64]) {
     let c = record_c();
     say(b"check C: ");
     show_checked(check(
         &c,
         65540,
+        0,
         Polarity::Ones,
         Choice::Power(1, 0),
         summary,
@@ -819,6 +827,91 @@ fn lists_on_foreign_cells() {
     list_foreign(b"word 1, cells 0 0 4, ranks 0 1", 0b0001, &[0u64, 0, 4]);
 }
 
+// A's ones, power 1, 0, from an origin on.
+fn ones_from(origin: u64) -> Summary {
+    let mut summary = summary_of(Polarity::Ones, 10, 4, 1, 0, 5, 0);
+    summary.origin = origin;
+    summary
+}
+
+fn build_from(name: &[u8], len: u64, origin: u64) {
+    let a = [0x252u64];
+    let mut cells = [u64::MAX; 5];
+    let mut none = [u64::MAX; 1];
+    say(b"build ");
+    say(name);
+    say(b": ");
+    let choice = Choice::Power(1, 0);
+    show_built(build(
+        &a,
+        len,
+        origin,
+        Polarity::Ones,
+        choice,
+        &mut cells,
+        &mut none,
+    ));
+    say(b"  inventory");
+    end_cells(&cells);
+}
+
+fn builds_from_origins() {
+    build_from(b"A, origin 100", 10, 100);
+    build_from(b"A, origin 2^62 - 11", 10, 0x3fff_ffff_ffff_fff5);
+    build_from(b"A, origin 2^62 - 10", 10, 0x3fff_ffff_ffff_fff6);
+    build_from(b"A, origin 2^64 - 1", 10, u64::MAX);
+    build_from(b"len 0, origin 2^62", 0, 0x4000_0000_0000_0000);
+    build_from(
+        b"len 2^62, origin 2^62",
+        0x4000_0000_0000_0000,
+        0x4000_0000_0000_0000,
+    );
+    build_from(
+        b"len 65 in one word, origin 2^62",
+        65,
+        0x4000_0000_0000_0000,
+    );
+}
+
+// Every reader on A, from an origin on.
+fn read_from(origin: u64) {
+    let a = [0x252u64];
+    let none = [0u64; 0];
+    let cells = [1u64, 0x30000, 6, 0x30000, 10];
+    let ones = ones_from(origin);
+    say_number(b"A, origin ", origin);
+    end_line();
+    show_rank(&a, ones, &cells, &none, 0);
+    show_rank(&a, ones, &cells, &none, 3);
+    say(b"dwell A 0, 3: ");
+    show(dwell(&a, ones, &cells, &none, 0, 3));
+    show_list(
+        b"A, ranks 0 1 2 3",
+        &a,
+        ones,
+        &cells,
+        &[0u64, 1, 2, 3],
+        &mut [77u64; 5],
+    );
+}
+
+fn readers_from_origins() {
+    read_from(100);
+    read_from(0x3fff_ffff_ffff_fff5);
+    read_from(0x3fff_ffff_ffff_fff6);
+    read_from(u64::MAX);
+}
+
+// The origin handed in, then the summary's.
+fn checks_from_origins() {
+    let cells = [1u64, 0x30000, 6, 0x30000, 10];
+    check_a_from(100, ones_from(100), &cells);
+    check_a_from(100, ones_from(0), &cells);
+    check_a_from(0, ones_from(100), &cells);
+    check_a_from(100, ones_from(u64::MAX), &cells);
+    check_a_from(u64::MAX, ones_from(u64::MAX), &cells);
+}
+
 fn main() {
     counts();
     in_words();
@@ -838,4 +931,7 @@ fn main() {
     checks_of_c();
     lists_of_a();
     lists_on_foreign_cells();
+    builds_from_origins();
+    readers_from_origins();
+    checks_from_origins();
 }

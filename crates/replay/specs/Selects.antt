@@ -5,12 +5,12 @@ use Prim.Native.Nat.{ℕ, suc}
 use lib.Dec.{eqb}
 use Rattle.rank_sel.specs.Outcome.{Outcome, answer, refused}
 
--- whether the answer is this position
+-- whether the answer is this sample
 abbrev pub isAt : ℕ → Outcome ℕ → Bool
 isAt p (answer a) = eqb a p
 isAt p (refused n) = false
 
--- of pairs of a rank and a position, how many at the start are answered with the position
+-- of pairs of a rank and a sample, how many at the start are answered with the sample
 unfoldable pub selectsAlike : (ℕ → Outcome ℕ) → List ℕ → ℕ
 selectsAlike select [] = 0
 selectsAlike select (r ∷ []) = 0

@@ -96,9 +96,13 @@ fn compare_counts(tally: Tally, inventory_len: u64, spill_len: u64, parts: Parts
         )
 }
 
+// Size takes no origin: of a case that is turned down for it, the list does not say what size answers.
 fn replay_size(tally: Tally, list: &[u64], case: Case) -> Tally
     requires { ⌜ PartsIn (now list) (case .parts) ⌝ }
 {
+    if case.refusal == refusal_number(Refusal::OriginTooLarge) {
+        return tally;
+    }
     let question = case.question;
     let polarity = question.polarity;
     let choice = question.choice;
@@ -140,6 +144,7 @@ fn replay_check(tally: Tally, list: &[u64], case: Case, summary: Summary) -> Tal
     match check(
         words_of(list, case.parts),
         question.len,
+        question.origin,
         polarity,
         choice,
         summary,
@@ -158,12 +163,12 @@ fn is_at(
     inventory: &[u64],
     spill: &[u64],
     rank: u64,
-    position: u64,
+    sample: u64,
 ) -> bool
-    ensures { λ r. ⌜ r ≡ isAt position (selectOf (now (words .entry)) summary (now (inventory .entry)) (now (spill .entry)) rank) ⌝ }
+    ensures { λ r. ⌜ r ≡ isAt sample (selectOf (now (words .entry)) summary (now (inventory .entry)) (now (spill .entry)) rank) ⌝ }
 {
     match select(words, summary, inventory, spill, rank) {
-        Answer::Value(p) => p == position,
+        Answer::Value(p) => p == sample,
         Answer::Refused(_) => false,
     }
 }
@@ -182,8 +187,8 @@ fn selects_alike(
     let mut i = 0;
     while i < n {
         let rank = selects[2 * i];
-        let position = selects[2 * i + 1];
-        if !is_at(words, summary, inventory, spill, rank, position) {
+        let sample = selects[2 * i + 1];
+        if !is_at(words, summary, inventory, spill, rank, sample) {
             return i;
         }
         i += 1;
@@ -213,6 +218,7 @@ fn replay_summary(tally: Tally, list: &[u64], case: Case, summary: Summary) -> T
 {
     let parts = case.parts;
     let tally = compare_plan(tally, summary.plan, case.figures);
+    let tally = tally.compare(b"origin", summary.origin, case.question.origin);
     let tally = compare_counts(tally, summary.inventory_len, summary.spill_len, parts);
     let tally = replay_check(tally, list, case, summary);
     replay_selects(tally, list, parts, summary)
@@ -229,7 +235,15 @@ fn build_blank(
     fill(spill);
     let polarity = question.polarity;
     let choice = question.choice;
-    build(words, question.len, polarity, choice, inventory, spill)
+    build(
+        words,
+        question.len,
+        question.origin,
+        polarity,
+        choice,
+        inventory,
+        spill,
+    )
 }
 
 fn replay_build(

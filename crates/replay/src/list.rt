@@ -16,6 +16,7 @@ const END: u64 = u64::MAX;
 
 pub(crate) struct Question {
     pub(crate) len: u64,
+    pub(crate) origin: u64,
     pub(crate) polarity: Polarity,
     pub(crate) choice: Choice,
 }
@@ -75,16 +76,17 @@ fn percentage_of(bits: u64) -> f64
     f64::from_bits(bits)
 }
 
-// Of the eight numbers at a case's start the first is that of its words, and the last its refusal.
+// Of the nine numbers at a case's start the first is that of its words, and the last its refusal.
 fn read_question(list: &[u64], at: usize) -> Question
-    requires { ⌜ at + 8 ≤ length (now list) ⌝ }
+    requires { ⌜ at + 9 ≤ length (now list) ⌝ }
 {
-    let kind = cut(list[at + 3]);
-    let percentage = percentage_of(list[at + 5]);
+    let kind = cut(list[at + 4]);
+    let percentage = percentage_of(list[at + 6]);
     Question {
         len: list[at + 1],
-        polarity: polarity_at(list[at + 2]),
-        choice: choice_at(kind, list[at + 4], percentage, cut(list[at + 6])),
+        origin: list[at + 2],
+        polarity: polarity_at(list[at + 3]),
+        choice: choice_at(kind, list[at + 5], percentage, cut(list[at + 7])),
     }
 }
 
@@ -100,10 +102,10 @@ fn read_figures(list: &[u64], at: usize) -> Figures
 }
 
 fn read_refused(list: &[u64], at: usize) -> Next
-    requires { ⌜ at + 8 ≤ length (now list) ⌝ }
+    requires { ⌜ at + 9 ≤ length (now list) ⌝ }
     ensures { λ r. ⌜ NextIn (now (list .entry)) at r ⌝ }
 {
-    let words = at + 8;
+    let words = at + 9;
     let end = after(words, list[at]);
     if end > list.len() {
         return Next::Broken;
@@ -124,23 +126,23 @@ fn read_refused(list: &[u64], at: usize) -> Next
     };
     Next::Case(Case {
         question: read_question(list, at),
-        refusal: list[at + 7],
+        refusal: list[at + 8],
         figures,
         parts,
     })
 }
 
 fn read_answered(list: &[u64], at: usize) -> Next
-    requires { ⌜ at + 8 ≤ length (now list) ⌝ }
+    requires { ⌜ at + 9 ≤ length (now list) ⌝ }
     ensures { λ r. ⌜ NextIn (now (list .entry)) at r ⌝ }
 {
-    if list.len() - at < 14 {
+    if list.len() - at < 15 {
         return Next::Broken;
     }
-    let words = at + 14;
+    let words = at + 15;
     let inventory = after(words, list[at]);
-    let spill = after(inventory, list[at + 12]);
-    let selects_count = after(spill, list[at + 13]);
+    let spill = after(inventory, list[at + 13]);
+    let selects_count = after(spill, list[at + 14]);
     if selects_count >= list.len() {
         return Next::Broken;
     }
@@ -161,7 +163,7 @@ fn read_answered(list: &[u64], at: usize) -> Next
     Next::Case(Case {
         question: read_question(list, at),
         refusal: 0,
-        figures: read_figures(list, at + 8),
+        figures: read_figures(list, at + 9),
         parts,
     })
 }
@@ -175,13 +177,13 @@ pub(crate) fn read_next(list: &[u64], at: usize) -> Next
     if left == 1 && list[at] == END {
         return Next::End;
     }
-    if left < 8 {
+    if left < 9 {
         return Next::Broken;
     }
-    if !is_known(cut(list[at + 2]), cut(list[at + 3])) {
+    if !is_known(cut(list[at + 3]), cut(list[at + 4])) {
         return Next::Broken;
     }
-    if list[at + 7] == 0 {
+    if list[at + 8] == 0 {
         return read_answered(list, at);
     }
     read_refused(list, at)
@@ -211,7 +213,7 @@ pub(crate) fn spill_of(list: &[u64], parts: Parts) -> &[u64]
     &list[from..to]
 }
 
-// A rank and its position, by turns.
+// A rank and its sample, by turns.
 pub(crate) fn selects_of(list: &[u64], parts: Parts) -> &[u64]
     requires { ⌜ PartsIn (now list) parts ⌝ }
 {

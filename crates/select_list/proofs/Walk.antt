@@ -1,7 +1,7 @@
 -- The loop over a list. A reading never starts before the last bit, so no word is counted twice and the total stays at most the
 -- number of the last bit's word and one; after i ranks the defined walk goes on from what is in hand.
 use mathlib.Core.Bool.{Bool, true, false, cond}
-use mathlib.Core.List.{List, [], _∷_, _++_}
+use mathlib.Core.List.{List, [], _∷_, _++_, map, map-append}
 use mathlib.Core.Option.{Option, none, some}
 use mathlib.Core.Path.{_≡_, refl, sym, ap, subst, _∙_}
 use Prim.Native.Nat.{ℕ, suc, _+_, _-_, _/_, _^_, _≤_, _<_}
@@ -9,20 +9,21 @@ use native.Mathlib.Nat.{add-zero}
 use native.Mathlib.Numerals.{add-one}
 use native.Mathlib.Omega.{arith}
 use lib.Dec.{eqb, ltb}
-use lib.ListN.{length, getD, drop, set, length-append}
+use lib.ListN.{length, getD, drop, set, length-append, length-map}
 use lib.Seq.{drop-cons, drop-length}
 use borrow.Author.Tests.{ltb-false, eqb-true, eqb-false}
 use Rattle.rank_sel.specs.Outcome.{Outcome, answer, refused, orRefuse, andThen}
 use Rattle.rank_sel.specs.Seek.{seek}
 use Rattle.rank_sel.specs.declared.Answer.the-variants as Answer·v
 use Rattle.rank_sel.specs.declared.Refusal.the-variants.{CellsUnlawful}
-use Rattle.rank_sel.proofs.Outcome.{never, answer-is, then-answer}
+use Rattle.rank_sel.proofs.Outcome.{never, answer-is, is-some, then-answer}
 use Rattle.rank_sel.proofs.Seek.{seek-found}
-use Rattle.bit_record.specs.Record.{selected}
+use Rattle.bit_record.specs.Record.{selected, sampleAt}
 use Rattle.inventory.specs.declared.summary.Summary.{Summary}
 use Rattle.read_inventory.specs.Read.{Mark, markOfRank}
+use Rattle.read_inventory.proofs.Answers.{mark-low}
 use Rattle.select_list.specs.Hand.{lastOf, HandIn, stepBy, stepped, Advances, Walkable, written, Wrote}
-use Rattle.select_list.specs.List.{Walk, start, after, walk}
+use Rattle.select_list.specs.List.{Walk, start, after, walk, samplesFrom}
 use Rattle.select_list.specs.Step.{Reached, Start, fromMark, startOf, wordsRead, Step, reachedBy, readFrom, atMark, stepFrom, stepOf}
 use Rattle.select_list.specs.declared.step.Advance.{Advance}
 use Rattle.select_list.specs.declared.step.Advanced.{Advanced}
@@ -67,16 +68,12 @@ words-total len (some b) total from p h l le = go (eqb (from / 64) (b .at / 64))
         let i : (from / 64 ≡ b .at / 64) → ⊥ = eqb-false (from / 64) (b .at / 64) e in
         rw e (omega arith)
 
-some-is : {A : Type 0} (o : Option A) (a : A) → orRefuse 10 o ≡ answer a → o ≡ some a
-some-is (some b) a e = ap some (answer-is e)
-some-is none a e = never e
-
 module _ (f : ℕ → Bool) (len : ℕ) (last : Option Reached) (r total : ℕ) (h : Total len last total) (x : Step) where
   read-total : (s : Start) → NotBefore last (s .from) → readFrom f len last r s ≡ answer x → Total len (x .last) (total + x .words)
   unfolding readFrom
   read-total s l e =
       let a = then-answer (orRefuse 10 (seek f (len - s .from) (s .from) (s .passes))) (λ p. answer (reachedBy last r (s .from) p)) x e in
-      let b = seek-found f (len - s .from) (s .from) (s .passes) (a .0) (some-is _ (a .0) (a .1)) in
+      let b = seek-found f (len - s .from) (s .from) (s .passes) (a .0) (is-some 10 _ (a .0) (a .1)) in
       subst (λ (y : Step). Total len (y .last) (total + y .words)) (answer-is (a .2))
       (words-total len last total (s .from) (a .0) h l (b .low), omega (arith, b .low, b .high))
 
@@ -94,6 +91,26 @@ step-total ws t inv sp last r total x h e =
     let a = then-answer (markOfRank t inv sp r) (stepFrom f (t .plan .len) last r) x (sym e) in
     from-total f (t .plan .len) last r total h x (a .0 .exact) (a .0) (a .2)
 
+-- ---- a rank's position lies in the record
+module _ (f : ℕ → Bool) (len : ℕ) (last : Option Reached) (r : ℕ) (x : Step) where
+  from-low : (b : Bool) (m : Mark) → m .at < len
+      → cond b (answer (atMark last m)) (readFrom f len last r (startOf last r m)) ≡ answer x → x .position < len
+  unfolding readFrom
+  from-low true m l e = subst (λ (y : Step). y .position < len) (answer-is e) l
+  from-low false m l e =
+      let s : Start = startOf last r m in
+      let a = then-answer (orRefuse 10 (seek f (len - s .from) (s .from) (s .passes))) (λ p. answer (reachedBy last r (s .from) p)) x e in
+      let b = seek-found f (len - s .from) (s .from) (s .passes) (a .0) (is-some 10 _ (a .0) (a .1)) in
+      subst (λ (y : Step). y .position < len) (answer-is (a .2)) (omega (arith, b .low, b .high))
+
+step-low : (ws : List ℕ) (t : Summary) (inv sp : List ℕ) (last : Option Reached) (r : ℕ) (x : Step)
+    → answer x ≡ stepOf ws t inv sp last r → x .position < t .plan .len
+unfolding stepOf stepFrom
+step-low ws t inv sp last r x e =
+    let f = selected (t .plan .polarity) ws (t .plan .len) in
+    let a = then-answer (markOfRank t inv sp r) (stepFrom f (t .plan .len) last r) x (sym e) in
+    from-low f (t .plan .len) last r x (a .0 .exact) (a .0) (mark-low t inv sp r (a .0) (a .1)) (a .2)
+
 -- ---- after i ranks
 module _ (ws : List ℕ) (t : Summary) (inv sp ranks : List ℕ) where
   abbrev whole : Outcome Walk
@@ -102,8 +119,11 @@ module _ (ws : List ℕ) (t : Summary) (inv sp ranks : List ℕ) where
   abbrev f : ℕ → Bool
   f = selected (t .plan .polarity) ws (t .plan .len)
 
+  abbrev sample : ℕ → ℕ
+  sample p = sampleAt (t .origin) p
+
   module _ (l₀ : List ℕ) where
-    -- so many positions are found and written, and the walk goes on with the other ranks
+    -- so many positions are found and their samples written, and the walk goes on with the other ranks
     pub record Stands (l : List ℕ) (h : Hand) (total i : ℕ) : Type 0 where
       pub positions : List ℕ
       pub found : length positions ≡ i
@@ -112,7 +132,7 @@ module _ (ws : List ℕ) (t : Summary) (inv sp ranks : List ℕ) where
       pub counted : Total (t .plan .len) (lastOf h) total
       pub hand : HandIn f (t .plan .len) h
       pub before : i < length ranks → h .rank ≤ getD ranks i 0
-      pub places : l ≡ written positions l₀
+      pub places : l ≡ written (map sample positions) l₀
 
     pub stands-first : Stands l₀ (record { any = false; at = 0; rank = 0; word = 0 }) 0 0
     stands-first = record {
@@ -130,18 +150,21 @@ module _ (ws : List ℕ) (t : Summary) (inv sp ranks : List ℕ) where
     }
 
     module _ {l : List ℕ} {h : Hand} {total i : ℕ} (s : Stands l h total i) where
+      abbrev samples : List ℕ
+      samples = map sample (s .positions)
+
       pub stands-long : length l ≡ length l₀
-      stands-long = ap length (s .places) ∙ written-long (s .positions) l₀
+      stands-long = ap length (s .places) ∙ written-long samples l₀
 
       abbrev here : Walk
       here = record { positions = s .positions; total = total; last = lastOf h }
 
-      pub stands-all : length ranks ≤ i → Wrote whole l₀ l (Answer·v.Value total)
+      pub stands-all : length ranks ≤ i → Wrote (t .origin) whole l₀ l (Answer·v.Value total)
       unfolding walk
       stands-all g =
           let n : i ≡ length ranks = omega (arith, s .within) in
           let e : whole ≡ answer here = s .goes ∙ ap (walk ws t inv sp here) (ap (λ (j : ℕ). drop j ranks) n ∙ drop-length ranks) in
-          record { told = rw e; places = λ w d. s .places ∙ ap (λ (u : Walk). written (u .positions) l₀) (answer-is (sym e ∙ d)) }
+          record { told = rw e; places = λ w d. s .places ∙ ap (λ (u : Walk). written (samplesFrom (t .origin) u) l₀) (answer-is (sym e ∙ d)) }
 
       module _ (g : i < length ranks) (x : Advanced)
           (a : Advances f (t .plan .len) (getD ranks i 0) (stepOf ws t inv sp (lastOf h) (getD ranks i 0)) x) where
@@ -152,7 +175,7 @@ module _ (ws : List ℕ) (t : Summary) (inv sp ranks : List ℕ) where
             ∙ ap (walk ws t inv sp here) (drop-cons ranks i 0 g)
             ∙ ap (λ (o : Outcome Step). andThen o (λ y. walk ws t inv sp (after here y) (drop (suc i) ranks))) (sym (a .told))
 
-        pub stands-refused : x ≡ Advanced·v.Refused → Wrote whole l₀ l (Answer·v.Refused CellsUnlawful)
+        pub stands-refused : x ≡ Advanced·v.Refused → Wrote (t .origin) whole l₀ l (Answer·v.Refused CellsUnlawful)
         stands-refused e =
             let q : whole ≡ refused 10 = walk-next ∙ rw e in
             record { told = rw q; places = λ w d. never (sym q ∙ d) }
@@ -168,7 +191,10 @@ module _ (ws : List ℕ) (t : Summary) (inv sp ranks : List ℕ) where
           pub stands-small : t .plan .len < 2 ^ 62 → total + y .words < 2 ^ 62
           stands-small k = total-small (t .plan .len) (lastOf (y .hand)) (total + y .words) total-next k
 
-          pub stands-more : Walkable t inv sp ranks → (l′ : List ℕ) → l′ ≡ set l i (y .position)
+          pub stands-low : y .position < t .plan .len
+          stands-low = step-low ws t inv sp (lastOf h) (getD ranks i 0) (stepBy y) (taken .told)
+
+          pub stands-more : Walkable t inv sp ranks → (l′ : List ℕ) → l′ ≡ set l i (sample (y .position))
               → Stands l′ (y .hand) (total + y .words) (i + 1)
           stands-more k l′ el = record {
             positions = s .positions ++ (y .position ∷ []);
@@ -180,7 +206,8 @@ module _ (ws : List ℕ) (t : Summary) (inv sp ranks : List ℕ) where
             before = λ j. omega (arith, taken .hand .1, k .rising i j);
             places =
                 el
-                ∙ ap (λ (z : List ℕ). set z i (y .position)) (s .places)
-                ∙ ap (λ (j : ℕ). set (written (s .positions) l₀) j (y .position)) (sym (s .found))
-                ∙ written-more (s .positions) l₀ (y .position);
+                ∙ ap (λ (z : List ℕ). set z i (sample (y .position))) (s .places)
+                ∙ ap (λ (j : ℕ). set (written samples l₀) j (sample (y .position))) (sym (length-map (s .positions) sample ∙ s .found))
+                ∙ written-more samples l₀ (sample (y .position))
+                ∙ ap (λ (z : List ℕ). written z l₀) (sym (map-append sample (s .positions) (y .position ∷ [])));
           }

@@ -13,7 +13,7 @@ use Rattle.select_in_word.specs.Holds.{Holds}
 use Rattle.inventory.specs.declared.summary.Summary.{Summary}
 use Rattle.read_inventory.specs.Read.{Mark}
 use Rattle.read_inventory.specs.Tests.{Readable}
-use Rattle.select_list.specs.List.{Walk, NeverFalls, Listed, totalOf, placesAfter}
+use Rattle.select_list.specs.List.{Walk, NeverFalls, Listed, samplesFrom, totalOf, placesAfter}
 use Rattle.select_list.specs.Step.{Reached, Start, startOf, ofLast, inHand, Step, readFrom}
 use Rattle.select_list.specs.declared.step.Advance.{Advance}
 use Rattle.select_list.specs.declared.step.Advanced.{Advanced}
@@ -76,18 +76,18 @@ pub record Walkable (t : Summary) (inv sp ranks : List ℕ) : Type 0 where
   pub readable : (i : ℕ) → i < length ranks → Readable t inv sp (getD ranks i 0)
   pub rising : NeverFalls ranks
 
--- positions written over what was there, as far as there is room
+-- samples written over what was there, as far as there is room
 unfoldable pub written : List ℕ → List ℕ → List ℕ
 written ps [] = []
 written [] (y ∷ l) = y ∷ l
 written (p ∷ ps) (y ∷ l) = p ∷ written ps l
 
--- a walk tells its total, and its positions are written where it is answered
-pub record Wrote (o : Outcome Walk) (l₀ l : List ℕ) (r : Answer) : Type 0 where
+-- a walk tells its total, and its samples are written where it is answered
+pub record Wrote (origin : ℕ) (o : Outcome Walk) (l₀ l : List ℕ) (r : Answer) : Type 0 where
   pub told : answered r ≡ andThen o (λ w. answer (w .total))
-  pub places : (w : Walk) → o ≡ answer w → l ≡ written (w .positions) l₀
+  pub places : (w : Walk) → o ≡ answer w → l ≡ written (samplesFrom origin w) l₀
 
--- ---- the list: all positions are written, or none
+-- ---- the list: all samples are written, or none
 pub record Placed (o : Outcome Listed) (l₀ l : List ℕ) (r : Answer) : Type 0 where
   pub told : answered r ≡ totalOf o
   pub places : l ≡ placesAfter o l₀

@@ -1,11 +1,12 @@
 -- A list of jumps in one go, on any summary and cells. Document 02, W-201.
 use mathlib.Core.Bool.{Bool, false, _||_}
-use mathlib.Core.List.{List, [], _∷_, _++_}
+use mathlib.Core.List.{List, [], _∷_, _++_, map}
 use mathlib.Core.Option.{Option, none}
 use Prim.Native.Nat.{ℕ, _+_, _≤_, _<_}
 use lib.Dec.{ltb}
 use lib.ListN.{length, getD, drop}
 use Rattle.rank_sel.specs.Outcome.{Outcome, answer, refused, Conditions, refuseBy, andThen}
+use Rattle.bit_record.specs.Record.{sampleAt}
 use Rattle.spacing.specs.Spacing.{N}
 use Rattle.inventory.specs.declared.summary.Summary.{Summary}
 use Rattle.read_inventory.specs.Tests.{rankTooLarge, ofIndex}
@@ -54,16 +55,19 @@ anyTooLarge num (r ∷ rs) = rankTooLarge num r || anyTooLarge num rs
 abbrev pub ofList : ℕ → List ℕ → ℕ → Conditions
 ofList num ranks lent = (falls ranks, 12) ∷ (tooFewPlaces lent ranks, 13) ∷ (anyTooLarge num ranks, 8) ∷ []
 
--- ---- the list: its positions, and the words read for them
+-- ---- the list: the sample numbers of its positions, and the words read for them
 pub record Listed : Type 0 where
-  pub positions : List ℕ
+  pub samples : List ℕ
   pub total : ℕ
 
-abbrev pub listed : Walk → Listed
-listed w = record { positions = w .positions; total = w .total }
+abbrev pub samplesFrom : ℕ → Walk → List ℕ
+samplesFrom origin w = map (sampleAt origin) (w .positions)
+
+abbrev pub listed : ℕ → Walk → Listed
+listed origin w = record { samples = samplesFrom origin w; total = w .total }
 
 unfoldable pub walkOf : List ℕ → Summary → List ℕ → List ℕ → List ℕ → Outcome Listed
-walkOf ws t inv sp ranks = andThen (walk ws t inv sp start ranks) (λ w. answer (listed w))
+walkOf ws t inv sp ranks = andThen (walk ws t inv sp start ranks) (λ w. answer (listed (t .origin) w))
 
 unfoldable pub listOf : List ℕ → Summary → List ℕ → List ℕ → List ℕ → ℕ → Outcome Listed
 listOf ws t inv sp ranks lent = refuseBy (ofIndex ws t inv sp ++ ofList (N (t .plan)) ranks lent) (walkOf ws t inv sp ranks)
@@ -71,9 +75,9 @@ listOf ws t inv sp ranks lent = refuseBy (ofIndex ws t inv sp ++ ofList (N (t .p
 abbrev pub totalOf : Outcome Listed → Outcome ℕ
 totalOf o = andThen o (λ x. answer (x .total))
 
--- what the lent places hold afterwards: the positions in front, the rest as it was; all as it was on a refusal
+-- what the lent places hold afterwards: the samples in front, the rest as it was; all as it was on a refusal
 abbrev pub placesAfter : Outcome Listed → List ℕ → List ℕ
-placesAfter (answer x) places = x .positions ++ drop (length (x .positions)) places
+placesAfter (answer x) places = x .samples ++ drop (length (x .samples)) places
 placesAfter (refused n) places = places
 
 -- ---- single jumps

@@ -1,34 +1,35 @@
-// The list: all its positions, or none.
+// The list: the sample numbers of all its positions, or none.
 ghost use mathlib.Core.Path.{_≡_};
 ghost use Prim.Native.Nat.{_≤_};
 ghost use lib.ListN.{length, set, take};
 ghost use Rattle.rank_sel.specs.Outcome.{answered};
-ghost use Rattle.bit_record.specs.Record.{Admitted};
+ghost use Rattle.bit_record.specs.Record.{AdmittedFrom};
 ghost use Rattle.select_list.specs.Hand.{Placed, Walkable, Wrote, written};
 ghost use Rattle.select_list.specs.List.{listOf, placesAfter, start, totalOf, walk, walkOf};
 use crate::step::Advanced;
 use crate::step::Hand;
 use crate::step::step_to;
 use crate::tests::test_call;
+use bit_record::sample_at;
 use inventory::Summary;
 use rank_sel::Answer;
 use rank_sel::Refusal;
 use rank_sel::Tested;
 use rank_sel::reason;
 
-// The positions that are held aside until the last is known: as many as the screen asks for, and some.
+// The samples that are held aside until the last is known: as many as the screen asks for, and some.
 const HELD: usize = 64;
 
-// Writes a position where there is room for it.
-fn put(places: &mut [u64], i: usize, position: u64)
-    ensures { λ r. ⌜ now (places .exit) ≡ set (now (places .entry)) i position ⌝ }
+// Writes a sample where there is room for it.
+fn put(places: &mut [u64], i: usize, sample: u64)
+    ensures { λ r. ⌜ now (places .exit) ≡ set (now (places .entry)) i sample ⌝ }
 {
     if i < places.len() {
-        places[i] = position;
+        places[i] = sample;
     }
 }
 
-// Walks a list, and writes each position as it is found, as far as there is room.
+// Walks a list, and writes the sample of each position as it is found, as far as there is room.
 fn walk_into(
     words: &[u64],
     summary: Summary,
@@ -37,8 +38,8 @@ fn walk_into(
     ranks: &[u64],
     places: &mut [u64],
 ) -> Answer
-    requires { ⌜ Admitted (now words) (summary .plan .len) × Walkable summary (now inventory) (now spill) (now ranks) ⌝ }
-    ensures { λ r. ⌜ Wrote (walk (now (words .entry)) summary (now (inventory .entry)) (now (spill .entry)) start (now (ranks .entry))) (now (places .entry)) (now (places .exit)) r ⌝ }
+    requires { ⌜ AdmittedFrom (now words) (summary .plan .len) (summary .origin) × Walkable summary (now inventory) (now spill) (now ranks) ⌝ }
+    ensures { λ r. ⌜ Wrote (summary .origin) (walk (now (words .entry)) summary (now (inventory .entry)) (now (spill .entry)) start (now (ranks .entry))) (now (places .entry)) (now (places .exit)) r ⌝ }
 {
     let n = ranks.len();
     let mut hand = Hand {
@@ -53,7 +54,7 @@ fn walk_into(
         let Advanced::To(step) = step_to(words, summary, inventory, spill, hand, ranks[i]) else {
             return Answer::Refused(Refusal::CellsUnlawful);
         };
-        put(places, i, step.position);
+        put(places, i, sample_at(summary.origin, step.position));
         total += step.words;
         hand = step.hand;
         i += 1;
@@ -83,7 +84,7 @@ fn place_all(
     ranks: &[u64],
     places: &mut [u64],
 ) -> Answer
-    requires { ⌜ Admitted (now words) (summary .plan .len) × Walkable summary (now inventory) (now spill) (now ranks) × (length (now ranks) ≤ length (now places)) ⌝ }
+    requires { ⌜ AdmittedFrom (now words) (summary .plan .len) (summary .origin) × Walkable summary (now inventory) (now spill) (now ranks) × (length (now ranks) ≤ length (now places)) ⌝ }
     ensures { λ r. ⌜ Placed (walkOf (now (words .entry)) summary (now (inventory .entry)) (now (spill .entry)) (now (ranks .entry))) (now (places .entry)) (now (places .exit)) r ⌝ }
 {
     let mut held = [0u64; HELD];
@@ -98,7 +99,7 @@ fn place_all(
     Answer::Value(total)
 }
 
-// The positions of a list of ranks, in `places`; the answer is the total of words read.
+// The samples of a list of ranks, in `places`; the answer is the total of words read.
 pub fn select_list(
     words: &[u64],
     summary: Summary,

@@ -1,4 +1,4 @@
-// What a list is held to before any cell is read: 1, 2, 9, 6, 7 of the index, then 12, 13 and 8.
+// What a list is held to before any cell is read: 1, 14, 2, 9, 6, 7 of the index, then 12, 13 and 8.
 ghost use mathlib.Core.Bool.{false};
 ghost use mathlib.Core.List.{_++_};
 ghost use mathlib.Core.Path.{_≡_};

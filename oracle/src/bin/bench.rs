@@ -17,6 +17,8 @@ const USAGE: &str =
 const QUERIES: u64 = 1 << 20;
 /// Ranks in the lists of one run.
 const LISTED: u64 = 40 * 4096;
+/// The sample number of bit 0, for ours; the Rust has none.
+const ORIGIN: u64 = 100;
 
 /// A column's name, and how many ranks a run of it answers: none where the call is timed as a whole.
 type Column = (&'static str, Option<u64>);
@@ -113,7 +115,7 @@ fn ours(call: &str, log2: u32, halvings: u32) -> ExitCode {
     let record = Record { words: &words, len: 1 << log2, polarity: model::ONES };
     let choice = cases::default();
     let (mut inventory, mut spill) = lent(&record);
-    let summary = record.build(&choice, &mut inventory, &mut spill).unwrap();
+    let summary = record.build(ORIGIN, &choice, &mut inventory, &mut spill).unwrap();
     let n = record.count().unwrap();
     let ranks = match call {
         "random" => (0..QUERIES).map(|_| random.below(n)).collect(),
@@ -126,8 +128,8 @@ fn ours(call: &str, log2: u32, halvings: u32) -> ExitCode {
     while started.elapsed().as_secs() < 2 {
         times += 1;
         match call {
-            "build" => drop(black_box(record.build(&choice, &mut inventory, &mut spill))),
-            "check" => drop(black_box(record.check(&choice, &summary, &inventory, &spill))),
+            "build" => drop(black_box(record.build(ORIGIN, &choice, &mut inventory, &mut spill))),
+            "check" => drop(black_box(record.check(ORIGIN, &choice, &summary, &inventory, &spill))),
             "random" | "rising" | "list" => {
                 let index = Index { words: &words, summary: &summary, inventory: &inventory, spill: &spill };
                 black_box(if call == "list" {
@@ -222,7 +224,7 @@ fn measure(words: &[u64], len: u64, polarity: u32, random: &Random, runs: u32) -
         };
         assert_eq!(a, b as u64);
 
-        let build = || record.build(&choice, &mut inventory, &mut spill).unwrap();
+        let build = || record.build(ORIGIN, &choice, &mut inventory, &mut spill).unwrap();
         let queries = [&random_ranks, &rising_ranks];
         if polarity == model::ONES {
             let (summary, structure) = both(&mut best[1], swap, build, || SelectAdapt::new(theirs.clone()));
@@ -241,17 +243,17 @@ fn measure(words: &[u64], len: u64, polarity: u32, random: &Random, runs: u32) -
     best
 }
 
-/// Every rank's position, summed so that both sides must agree.
+/// Every rank's position, summed so that both sides must agree; the origins in our sum are taken off once it is timed.
 fn selects(best: &mut (f64, f64), swap: bool, ranks: &[u64], index: &Index, theirs: impl Fn(u64) -> u64) {
     let ours = || ranks.iter().map(|&rank| index.select(rank).unwrap()).fold(0, u64::wrapping_add);
     let (a, b) = both(best, swap, ours, || ranks.iter().map(|&rank| theirs(rank)).fold(0, u64::wrapping_add));
-    assert_eq!(a, b);
+    assert_eq!(a.wrapping_sub(ORIGIN * ranks.len() as u64), b);
 }
 
 fn measure_lists(words: &[u64], len: u64, polarity: u32, random: &Random, runs: u32) -> [(f64, f64); 4] {
     let record = Record { words, len, polarity };
     let (mut inventory, mut spill) = lent(&record);
-    let summary = record.build(&cases::default(), &mut inventory, &mut spill).expect("a lawful record");
+    let summary = record.build(ORIGIN, &cases::default(), &mut inventory, &mut spill).expect("a lawful record");
     let index = Index { words, summary: &summary, inventory: &inventory, spill: &spill };
     let queries = [(40, false), (40, true), (4096, false), (4096, true)]
         .map(|(count, spread)| (count as usize, lists(summary.n, count, spread, random)));
@@ -279,7 +281,8 @@ fn time_lists(
             let ours = || answer_lists(index, *count, ranks, &mut places);
             let loops = || ranks.iter().zip(&mut theirs).for_each(|(&rank, place)| *place = select(rank));
             both(best, run % 2 == 1, ours, loops);
-            assert!(places == theirs, "positions differ");
+            let same = places.iter().zip(&theirs).all(|(sample, position)| *sample == ORIGIN + position);
+            assert!(same, "positions differ");
         }
     }
     best
@@ -293,7 +296,7 @@ fn answer_lists(index: &Index, count: usize, ranks: &[u64], places: &mut [u64]) 
 
 /// Right after the build: the selects would leave it a colder cache than the build had.
 fn keep_check(best: &mut [(f64, f64); 5], record: &Record, index: &Index) {
-    let (seconds, yes) = timed(|| record.check(&cases::default(), index.summary, index.inventory, index.spill));
+    let (seconds, yes) = timed(|| record.check(ORIGIN, &cases::default(), index.summary, index.inventory, index.spill));
     assert_eq!(yes, Ok(true));
     best[2] = (best[2].0.min(seconds), best[1].0);
 }

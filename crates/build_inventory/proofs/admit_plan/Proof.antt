@@ -33,7 +33,7 @@ returns-2 c =
     let a = at-start .args in
     let e = ap sized (sym (at-known .inventory-len .given .1)) ∙ at-fit .fit .ensures in
     let s = fitting (sym e) in
-    rw (← e, le-ltb _ _ (c .if1 .left)) (ap answer (summary-made (a .words .now) (a .plan) _ _ (s .inventory) (s .spill)))
+    rw (← e, le-ltb _ _ (c .if1 .left)) (ap answer (summary-made (a .words .now) (a .origin) (a .plan) _ _ (s .inventory) (s .spill)))
 
 returns-3 : tie.Need-returns-3
 unfolding buildFrom

@@ -23,15 +23,15 @@ module _ (c : tie.After-summary) where
   abbrev outcome : Outcome Summary
   outcome =
       let a = at-start .args in
-      buildOf (a .words .now) (a .len) (a .polarity) (a .choice) (length (a .inventory .now)) (length (a .spill .now))
+      buildOf (a .words .now) (a .len) (a .origin) (a .polarity) (a .choice) (length (a .inventory .now)) (length (a .spill .now))
 
   answers : answer summary ≡ outcome
   answers = ap built (sym (c .summary .given .1)) ∙ at-admit .admit .ensures
 
   admits :
       let a = at-start .args in
-      Admission (a .words .now) (a .len) (a .polarity) (a .choice) (length (a .inventory .now)) (length (a .spill .now)) summary
-  admits = let a = at-start .args in admission (a .words .now) (a .len) (a .polarity) (a .choice) _ _ summary (sym answers)
+      Admission (a .words .now) (a .len) (a .origin) (a .polarity) (a .choice) (length (a .inventory .now)) (length (a .spill .now)) summary
+  admits = let a = at-start .args in admission (a .words .now) (a .len) (a .origin) (a .polarity) (a .choice) _ _ summary (sym answers)
 
 admit-requires : tie.Need-admit-requires
 admit-requires c κs = search needs
@@ -60,7 +60,7 @@ returns c =
     let at-summary = at-fill .before .before .before .before .before in
     let a = at-start at-summary .args in
     let f = at-fill .fill in
-    built-as (a .words .now) (a .inventory .now) (a .spill .now) _ (summary at-summary) (f .last .1 .1 .0) (f .last .1 .1 .1 .0)
+    built-as (a .words .now) (a .inventory .now) (a .spill .now) _ (a .origin) (summary at-summary) (f .last .1 .1 .0) (f .last .1 .1 .1 .0)
     (answers at-summary) (admits at-summary .is) (f .ensures)
 
 returns-2 : tie.Need-returns-2

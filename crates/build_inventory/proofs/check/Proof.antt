@@ -19,7 +19,7 @@ compare-requires c κs =
     let at-start = at-admit .before .before .before .before in
     let a = at-start .args in
     let m =
-    admission (a .words .now) (a .len) (a .polarity) (a .choice) _ _ (at-right .right .given .0 .0)
+    admission (a .words .now) (a .len) (a .origin) (a .polarity) (a .choice) _ _ (at-right .right .given .0 .0)
     (sym (at-admit .admit .ensures) ∙ ap built (at-right .right .given .1)) in
     record { plans = m .plans; cells = m .room; spills = m .spill-room }
 

@@ -1,4 +1,4 @@
--- An unknown code leaves all as it was. Else the codes stand for the entry's arguments, and its summary goes out as eight
+-- An unknown code leaves all as it was. Else the codes stand for the entry's arguments, and its summary goes out as nine
 -- numbers or its refusal as its own, with the cells that it left (`built-yes`, `built-no`).
 use mathlib.Core.Path.{refl}
 use lib.ListN.{length}
@@ -60,7 +60,7 @@ returns-2 c =
     let a = at-start .args in
     rw (is-known _ _ _ (at-is-known .is-known .ensures) (at-if1 .if1 .left))
     (built-yes
-    (ap2 (λ (p : Polarity) (k : Choice). buildOf (a .words .now) (a .len) p k (length (a .inventory .now)) (length (a .spill .now)))
+    (ap2 (λ (p : Polarity) (k : Choice). buildOf (a .words .now) (a .len) (a .origin) p k (length (a .inventory .now)) (length (a .spill .now)))
     (at-polarity-at .polarity-at .ensures) (at-choice-at .choice-at .ensures))
     (at-build .build .ensures) (at-built .built .given .0 .0) (at-built .built .given .1) (c .numbers-of .ensures))
 
@@ -83,7 +83,7 @@ returns-3 c =
     let a = at-start .args in
     rw (is-known _ _ _ (at-is-known .is-known .ensures) (at-if1 .if1 .left))
     (built-no
-    (ap2 (λ (p : Polarity) (k : Choice). buildOf (a .words .now) (a .len) p k (length (a .inventory .now)) (length (a .spill .now)))
+    (ap2 (λ (p : Polarity) (k : Choice). buildOf (a .words .now) (a .len) (a .origin) p k (length (a .inventory .now)) (length (a .spill .now)))
     (at-polarity-at .polarity-at .ensures) (at-choice-at .choice-at .ensures))
     (at-build .build .ensures) (at-refusal .refusal .given .0 .0) (at-refusal .refusal .given .1) (c .status .ensures))
 

@@ -63,11 +63,11 @@ returns-3 c =
     let a = at-start .args in
     let told = at-check .check .ensures
     ∙ ap2
-    (λ (p : Polarity) (k : Choice). checkOf (a .words .now) (a .len) p k (at-summary-at .summary-at .result) (a .inventory .now)
+    (λ (p : Polarity) (k : Choice). checkOf (a .words .now) (a .len) (a .origin) p k (at-summary-at .summary-at .result) (a .inventory .now)
     (a .spill .now))
     (at-polarity-at .polarity-at .ensures) (at-choice-at .choice-at .ensures)
     ∙ ap
-    (λ (t : Summary). checkOf (a .words .now) (a .len) (polarityAt (a .polarity)) (choiceAt (a .kind) (a .value) (a .percentage) (a .log2))
+    (λ (t : Summary). checkOf (a .words .now) (a .len) (a .origin) (polarityAt (a .polarity)) (choiceAt (a .kind) (a .value) (a .percentage) (a .log2))
     t (a .inventory .now) (a .spill .now))
     (at-summary-at .summary-at .ensures) in
     rw (is-known _ _ _ (at-is-known .is-known .ensures) (at-if1 .if1 .left), le-ltb _ _ (at-if2 .if2 .left))

@@ -1,4 +1,4 @@
--- An unknown code is turned down; else the entry's plan goes out as a summary's eight numbers, or its refusal as its own.
+-- An unknown code is turned down; else the entry's plan goes out as a summary's nine numbers, or its refusal as its own.
 use mathlib.Core.Path.{refl, sym, ap, _∙_}
 use borrow.Author.Needs.{needs}
 use Rattle.spacing.specs.Spacing.{planOf, planned}

@@ -1,4 +1,4 @@
--- The first number is what `polarity_code` returns; the other seven are the summary's own.
+-- The first number is what `polarity_code` returns; the other eight are the summary's own.
 use borrow.Author.Needs.{needs}
 use Rattle.edge_index_c.specs.Codes.{numbersOf}
 use Rattle.edge_index_c.proofs.numbers_of.Statement.{statement}

@@ -1,4 +1,4 @@
--- The eight reads lie within the array; the polarity and the three logarithms are what `polarity_at` and `cut` return.
+-- The nine reads lie within the array; the polarity and the three logarithms are what `polarity_at` and `cut` return.
 use borrow.Author.Needs.{needs}
 use Rattle.edge_index_c.specs.Codes.{summaryAt}
 use Rattle.edge_index_c.proofs.summary_at.Statement.{statement}
@@ -40,10 +40,13 @@ element-copy-out-t6 c = search needs
 element-copy-out-t24 : tie.Need-element-copy-out-t24
 element-copy-out-t24 c = search needs
 
+element-copy-out-t9-2 : tie.Need-element-copy-out-t9-2
+element-copy-out-t9-2 c = search needs
+
 returns : tie.Need-returns
 unfolding summaryAt
 returns c =
-    let at-cut3 = c .before .before in
+    let at-cut3 = c .before .before .before in
     let at-cut2 = at-cut3 .before .before in
     let at-cut = at-cut2 .before .before in
     let at-polarity-at = at-cut .before .before .before .before in
@@ -65,4 +68,5 @@ summary-at-spec =
     cut-requires-3
     element-copy-out-t6
     element-copy-out-t24
+    element-copy-out-t9-2
     returns)

@@ -94,7 +94,7 @@ mark-of-requires c κs = let at-told = c .before in dwell-first (called (at-test
 finish-requires : tie.Need-finish-requires
 finish-requires c κs =
     let at-told = at-passed c in
-    (dwell-held (called (at-test at-told)) (at-told .enum-told .given .1) .admitted, low-by (read c))
+    (dwell-held (called (at-test at-told)) (at-told .enum-told .given .1) .from .admitted, low-by (read c))
 
 enum-known-from : tie.Need-enum-known-from
 enum-known-from c = search needs
@@ -117,7 +117,7 @@ mark-of-requires-2 c κs =
 finish-requires-2 : tie.Need-finish-requires-2
 finish-requires-2 c κs =
     let at-told = at-pass (at-first c) in
-    (dwell-held (called (at-test at-told)) (at-told .enum-told .given .1) .admitted, low-by (read2 c))
+    (dwell-held (called (at-test at-told)) (at-told .enum-told .given .1) .from .admitted, low-by (read2 c))
 
 enum-known-to : tie.Need-enum-known-to
 enum-known-to c = search needs

@@ -1,8 +1,9 @@
--- Refused by the tests, or passed: then the mark as read is the hint, its rank less what is passed from it on.
+-- Refused by the tests, or passed: then the mark as read is the hint, by its sample, its rank less what is passed from it on.
 use mathlib.Core.Path.{_∙_}
+use native.Mathlib.Omega.{arith}
 use borrow.Author.Needs.{needs}
-use Rattle.read_inventory.proofs.Answers.{MarkRead, hint-at, hint-none, passes-few}
-use Rattle.read_inventory.proofs.Passing.{Called, called-readable, hint-passed, hint-stopped}
+use Rattle.read_inventory.proofs.Answers.{MarkRead, hint-at, hint-none, mark-below, passes-few}
+use Rattle.read_inventory.proofs.Passing.{Called, called-held, called-readable, hint-passed, hint-stopped}
 use Rattle.read_inventory.proofs.jump.hint.Statement.{statement}
 use Rattle.read_inventory.proofs.jump.hint.Tie as tie
 
@@ -58,18 +59,29 @@ returns-2 c =
     let at-mark = c .before .before in
     hint-none (read at-mark) (c .enum-told3 .given .1) ∙ hint-passed (called (at-test at-mark)) (at-passed at-mark .enum-told .given .1)
 
-sub-t12 : tie.Need-sub-t12
-sub-t12 c =
+sample-at-requires : tie.Need-sample-at-requires
+sample-at-requires c κs =
     let at-found = c .before in
+    let at-mark = at-found .before .before in
+    omega (
+      arith,
+      mark-below (read at-mark) _ _ _ (at-found .mark .given .1),
+      called-held (called (at-test at-mark)) (at-passed at-mark .enum-told .given .1) .from .numbered,
+    )
+
+sub-t13 : tie.Need-sub-t13
+sub-t13 c =
+    let at-found = c .before .before in
     let at-mark = at-found .before .before in
     passes-few (read at-mark) _ _ _ (at-found .mark .given .1)
 
 returns-3 : tie.Need-returns-3
 returns-3 c =
-    let at-found = c .before in
+    let at-found = c .before .before in
     let at-mark = at-found .before .before in
-    hint-at (read at-mark) _ _ _ (at-found .mark .given .1)
-    ∙ hint-passed (called (at-test at-mark)) (at-passed at-mark .enum-told .given .1)
+    rw (c .sample-at .ensures)
+    (hint-at (read at-mark) _ _ _ (at-found .mark .given .1)
+    ∙ hint-passed (called (at-test at-mark)) (at-passed at-mark .enum-told .given .1))
 
 pub hint-spec : {M : Type 1} → statement M
 hint-spec =
@@ -84,5 +96,6 @@ hint-spec =
     enum-known-mark
     enum-told-3
     returns-2
-    sub-t12
+    sample-at-requires
+    sub-t13
     returns-3)

@@ -1,7 +1,10 @@
--- Refused by the tests, or passed: then the mark as read leads to the position.
-use mathlib.Core.Path.{_∙_}
+-- Refused by the tests, or passed: then the mark as read leads to the position, and this to its sample.
+use mathlib.Core.Path.{_≡_, sym, ap, _∙_}
+use native.Mathlib.Omega.{arith}
 use borrow.Author.Needs.{needs}
-use Rattle.read_inventory.proofs.Answers.{MarkRead, position-by, low-by}
+use Rattle.rank_sel.specs.Outcome.{answered}
+use Rattle.read_inventory.specs.Read.{positionOf}
+use Rattle.read_inventory.proofs.Answers.{MarkRead, position-by, low-by, position-low, sample-stops, sample-is}
 use Rattle.read_inventory.proofs.Passing.{Called, called-held, called-readable, select-passed, select-stopped}
 use Rattle.read_inventory.proofs.jump.select.Statement.{statement}
 use Rattle.read_inventory.proofs.jump.select.Tie as tie
@@ -25,6 +28,15 @@ module _ (c : tie.After-mark-of) where
 
   read : let a = at-start at-test .args in MarkRead (a .summary) (a .inventory .now) (a .spill .now) (a .rank) (c .mark-of .result)
   read = record { told = c .mark-of .ensures }
+
+-- it leads to the position
+module _ (c : tie.After-finish) where
+  abbrev at-mark : tie.After-mark-of
+  at-mark = c .before
+
+  position : let a = at-start (at-test at-mark) .args in
+      answered (c .finish .result) ≡ positionOf (a .words .now) (a .summary) (a .inventory .now) (a .spill .now) (a .rank)
+  position = c .finish .ensures ∙ position-by (read at-mark) (at-start (at-test at-mark) .args .words .now)
 
 test-call-requires : tie.Need-test-call-requires
 test-call-requires c κs = search needs
@@ -51,14 +63,40 @@ mark-of-requires c κs =
     called-readable (called at-call) (at-pass .enum-told .given .1)
 
 finish-requires : tie.Need-finish-requires
-finish-requires c κs = (called-held (called (at-test c)) (at-passed c .enum-told .given .1) .admitted, low-by (read c))
+finish-requires c κs = (called-held (called (at-test c)) (at-passed c .enum-told .given .1) .from .admitted, low-by (read c))
+
+enum-known-found : tie.Need-enum-known-found
+enum-known-found c = search needs
+
+enum-told-3 : tie.Need-enum-told-3
+enum-told-3 c = search needs
 
 returns-2 : tie.Need-returns-2
 returns-2 c =
-    let at-mark = c .before in
-    c .finish .ensures
-    ∙ position-by (read at-mark) (at-start (at-test at-mark) .args .words .now)
-    ∙ select-passed (called (at-test at-mark)) (at-passed at-mark .enum-told .given .1)
+    let at-finish = c .before .before in
+    let at-read = at-mark at-finish in
+    sample-stops _ _ _ _ _ (answered (at-finish .finish .result)) _ (position at-finish) (ap answered (c .enum-told3 .given .1))
+    ∙ select-passed (called (at-test at-read)) (at-passed at-read .enum-told .given .1)
+
+sample-at-requires : tie.Need-sample-at-requires
+sample-at-requires c κs =
+    let at-found = c .before in
+    let at-finish = at-found .before .before in
+    let at-read = at-mark at-finish in
+    omega (
+      arith,
+      position-low _ _ _ _ _ _ (sym (position at-finish) ∙ ap answered (at-found .found .given .1)),
+      called-held (called (at-test at-read)) (at-passed at-read .enum-told .given .1) .from .numbered,
+    )
+
+returns-3 : tie.Need-returns-3
+returns-3 c =
+    let at-found = c .before .before in
+    let at-finish = at-found .before .before in
+    let at-read = at-mark at-finish in
+    rw (c .sample-at .ensures)
+    (sample-is _ _ _ _ _ _ (sym (ap answered (at-found .found .given .1)) ∙ position at-finish)
+    ∙ select-passed (called (at-test at-read)) (at-passed at-read .enum-told .given .1))
 
 pub select-spec : {M : Type 1} → statement M
 select-spec =
@@ -71,4 +109,8 @@ select-spec =
     returns
     mark-of-requires
     finish-requires
-    returns-2)
+    enum-known-found
+    enum-told-3
+    returns-2
+    sample-at-requires
+    returns-3)

@@ -6,27 +6,28 @@ use Rattle.rank_sel.specs.Outcome.{Conditions}
 use Rattle.rank_sel.specs.declared.Tested.{Tested}
 use Rattle.rank_sel.specs.declared.Tested.the-variants.{Passed}
 use Rattle.rank_sel.proofs.Outcome.{Tells, passed-none, stops, goes-on}
-use Rattle.bit_record.specs.Record.{ofRecord}
-use Rattle.bit_record.proofs.Counted.{admitted}
+use Rattle.bit_record.specs.Record.{ofRecordFrom}
+use Rattle.bit_record.proofs.Counted.{admitted-from}
 use Rattle.inventory.specs.Lawful.{ofSummary}
 use Rattle.read_inventory.specs.Tests.{inventoryTooShort, spillTooShort, ofCells, ofIndex}
 use Rattle.read_inventory.proofs.tests.test_index.Statement.{statement}
 use Rattle.read_inventory.proofs.tests.test_index.Tie as tie
 
 -- the record is tested
-module _ (c : tie.After-test-record) where
+module _ (c : tie.After-test-record-from) where
   abbrev at-start : tie.Start
   at-start = c .before .before .before .before
 
-  record-told : Tells (ofRecord (at-start .args .words .now) (at-start .args .summary .plan .len)) (c .test-record .result)
-  record-told = record { told = c .test-record .ensures }
+  record-told : let a = at-start .args in
+      Tells (ofRecordFrom (a .words .now) (a .summary .plan .len) (a .summary .origin)) (c .test-record-from .result)
+  record-told = record { told = c .test-record-from .ensures }
 
 -- so is the summary: what the cells' tests tell is told by all, where it passes
 module _ (c : tie.After-test-summary) where
   abbrev at-passed : tie.After-enum-told
   at-passed = c .before
 
-  abbrev at-record : tie.After-test-record
+  abbrev at-record : tie.After-test-record-from
   at-record = at-passed .before .before
 
   abbrev cells : Conditions
@@ -56,8 +57,8 @@ module _ (c : tie.After-test-lent) where
       Tells ((inventoryTooShort (a .summary) (a .inventory .now), 6) ∷ []) (c .test-lent .result)
   inventory-told = record { told = c .test-lent .ensures }
 
-test-record-requires : tie.Need-test-record-requires
-test-record-requires c κs = search needs
+test-record-from-requires : tie.Need-test-record-from-requires
+test-record-from-requires c κs = search needs
 
 enum-told : tie.Need-enum-told
 enum-told c = search needs
@@ -76,7 +77,8 @@ test-summary-requires : tie.Need-test-summary-requires
 test-summary-requires c κs =
     let at-test = c .before .before in
     let a = at-start at-test .args in
-    admitted (a .words .now) (a .summary .plan .len) (passed-none (record-told at-test) (c .enum-told .given .1)) .short
+    admitted-from (a .words .now) (a .summary .plan .len) (a .summary .origin)
+    (passed-none (record-told at-test) (c .enum-told .given .1)) .admitted .short
 
 enum-told-3 : tie.Need-enum-told-3
 enum-told-3 c = search needs
@@ -121,7 +123,7 @@ pub test-index-spec : {M : Type 1} → statement M
 test-index-spec =
     tie.close
     (tie.spec
-    test-record-requires
+    test-record-from-requires
     enum-told
     enum-told-2
     returns

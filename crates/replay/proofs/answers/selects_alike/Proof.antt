@@ -1,6 +1,6 @@
 -- After i turns that agree, i and what is alike in the rest make the whole; one that differs leaves i, and so does the end.
 use Prim.Native.Nat.{_+_, _*_, _-_, _/_, _≤_}
-use mathlib.Core.Path.{_≡_, refl, sym, _∙_}
+use mathlib.Core.Path.{_≡_, sym, _∙_}
 use native.Mathlib.Omega.{arith}
 use borrow.Author.Needs.{needs}
 use borrow.Author.Tests.{not-true, not-false}
@@ -29,17 +29,17 @@ mul-rank-2 c = search needs
 shared-slice-read-rank : tie.Need-shared-slice-read-rank Inv-loop μ-loop
 shared-slice-read-rank c = search needs
 
-mul-position : tie.Need-mul-position Inv-loop μ-loop
-mul-position c = search needs
+mul-sample : tie.Need-mul-sample Inv-loop μ-loop
+mul-sample c = search needs
 
-add-position : tie.Need-add-position Inv-loop μ-loop
-add-position c = search needs
+add-sample : tie.Need-add-sample Inv-loop μ-loop
+add-sample c = search needs
 
-mul-position-2 : tie.Need-mul-position-2 Inv-loop μ-loop
-mul-position-2 c = search needs
+mul-sample-2 : tie.Need-mul-sample-2 Inv-loop μ-loop
+mul-sample-2 c = search needs
 
-shared-slice-read-position : tie.Need-shared-slice-read-position Inv-loop μ-loop
-shared-slice-read-position c = search needs
+shared-slice-read-sample : tie.Need-shared-slice-read-sample Inv-loop μ-loop
+shared-slice-read-sample c = search needs
 
 is-at-requires : tie.Need-is-at-requires Inv-loop μ-loop
 is-at-requires c κs = search needs
@@ -76,10 +76,10 @@ selects-alike-spec =
     mul-rank
     mul-rank-2
     shared-slice-read-rank
-    mul-position
-    add-position
-    mul-position-2
-    shared-slice-read-position
+    mul-sample
+    add-sample
+    mul-sample-2
+    shared-slice-read-sample
     is-at-requires
     returns
     add-i

@@ -19,7 +19,7 @@ returns c = search needs
 returns-2 : tie.Need-returns-2
 returns-2 c =
     let a = c .before .args in
-    set-past (a .places .now) (a .i) (a .position) (c .if1 .left)
+    set-past (a .places .now) (a .i) (a .sample) (c .if1 .left)
 
 pub put-spec : {M : Type 1} → statement M
 put-spec = tie.close (tie.spec mul-places slice-write-places same-length returns returns-2)

@@ -1,7 +1,7 @@
 -- Refused by the tests, which leaves the places; or passed: then the walk places all.
 use borrow.Author.Needs.{needs}
 use lib.ListN.{length}
-use Rattle.select_list.proofs.Placed.{ListCalled, list-held, list-walkable, list-room, list-placed, list-stopped}
+use Rattle.select_list.proofs.Placed.{ListCalled, list-from, list-walkable, list-room, list-placed, list-stopped}
 use Rattle.select_list.proofs.list.select_list.Statement.{statement}
 use Rattle.select_list.proofs.list.select_list.Tie as tie
 
@@ -39,7 +39,7 @@ place-all-requires c κs =
     let at-passed = c .before in
     let at-call = at-passed .before .before in
     let e = at-passed .enum-told .given .1 in
-    (list-held (called at-call) e .admitted, list-walkable (called at-call) e, list-room (called at-call) e)
+    (list-from (called at-call) e, list-walkable (called at-call) e, list-room (called at-call) e)
 
 same-length : tie.Need-same-length
 same-length c = search needs

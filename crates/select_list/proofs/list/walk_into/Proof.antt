@@ -1,9 +1,10 @@
--- After i ranks their positions are written and the defined walk goes on from what is in hand (`Stands`).
+-- After i ranks their samples are written and the defined walk goes on from what is in hand (`Stands`).
+use mathlib.Core.Path.{ap, _∙_}
 use Prim.Native.Nat.{_-_}
-use lib.ListN.{length}
+use lib.ListN.{length, set}
 use native.Mathlib.Omega.{arith}
 use borrow.Author.Needs.{needs}
-use Rattle.select_list.proofs.Walk.{Stands, stands-first, stands-long, stands-all, stands-refused, stands-small, stands-more}
+use Rattle.select_list.proofs.Walk.{Stands, stands-first, stands-long, stands-all, stands-refused, stands-small, stands-low, stands-more}
 use Rattle.select_list.proofs.list.walk_into.Statement.{statement}
 use Rattle.select_list.proofs.list.walk_into.Tie as tie
 
@@ -25,6 +26,14 @@ module _ (c : tie.After-step-to Inv-loop μ-loop) where
   abbrev at-start : tie.Start Inv-loop μ-loop
   at-start = at-loop .before .before .before .before .before .before
 
+-- its position is numbered
+module _ (c : tie.After-sample-at Inv-loop μ-loop) where
+  abbrev at-step : tie.After-step Inv-loop μ-loop
+  at-step = c .before .before .before
+
+  abbrev at-step-to : tie.After-step-to Inv-loop μ-loop
+  at-step-to = at-step .before .before
+
 loop-holds : tie.Need-loop-holds Inv-loop μ-loop
 loop-holds c =
     let a = c .before .before .before .before .before .args in
@@ -43,7 +52,7 @@ step-to-requires c κs =
     let at-start = at-loop .before .before .before .before .before .before in
     let s = at-loop .loop .inv in
     let h = in-loop .loop-test .taken in
-    (at-start .pre .0, at-start .pre .1 .readable (at-loop .loop .i) h, s .hand, s .before h)
+    (at-start .pre .0 .admitted, at-start .pre .1 .readable (at-loop .loop .i) h, s .hand, s .before h)
 
 enum-known-step : tie.Need-enum-known-step Inv-loop μ-loop
 enum-known-step c = search needs
@@ -64,41 +73,54 @@ returns c =
     stands-refused (a .words .now) (a .summary) (a .inventory .now) (a .spill .now) (a .ranks .now) (a .places .now) (at-loop at-step-to .loop .inv)
     (in-loop at-step-to .loop-test .taken) (at-step-to .step-to .result) (at-step-to .step-to .ensures) (c .enum-told .given .1)
 
+sample-at-requires : tie.Need-sample-at-requires Inv-loop μ-loop
+sample-at-requires c κs =
+    let at-found = c .before .before in
+    let at-read = at-found .before .before in
+    let a = at-start at-read .args in
+    omega (
+      arith,
+      stands-low (a .words .now) (a .summary) (a .inventory .now) (a .spill .now) (a .ranks .now) (a .places .now) (at-loop at-read .loop .inv)
+          (in-loop at-read .loop-test .taken) (at-read .step-to .result) (at-read .step-to .ensures) _ (at-found .step .given .1),
+      at-start at-read .pre .0 .numbered,
+    )
+
 put-requires : tie.Need-put-requires Inv-loop μ-loop
 put-requires c κs = search needs
 
 add-total : tie.Need-add-total Inv-loop μ-loop
 add-total c =
-    let at-step = c .before .before .before .before .before .before in
-    let at-step-to = at-step .before .before in
-    let a = at-start at-step-to .args in
+    let at-put = c .before .before .before in
+    let at-sample = at-put .before in
+    let at-read = at-step-to at-sample in
+    let a = at-start at-read .args in
     omega (
       arith,
-      stands-small (a .words .now) (a .summary) (a .inventory .now) (a .spill .now) (a .ranks .now) (a .places .now) (at-loop at-step-to .loop .inv)
-          (in-loop at-step-to .loop-test .taken) (at-step-to .step-to .result) (at-step-to .step-to .ensures) _ (at-step .step .given .1)
-          (at-start at-step-to .pre .0 .short),
+      stands-small (a .words .now) (a .summary) (a .inventory .now) (a .spill .now) (a .ranks .now) (a .places .now) (at-loop at-read .loop .inv)
+          (in-loop at-read .loop-test .taken) (at-read .step-to .result) (at-read .step-to .ensures) _ (at-step at-sample .step .given .1)
+          (at-start at-read .pre .0 .admitted .short),
     )
 
 add-i : tie.Need-add-i Inv-loop μ-loop
 add-i c =
-    let in-loop = c .before .before .before .before .before .before .before .before .before .before .before in
-    let h = in-loop .loop-test .taken in
-    search needs
+    let at-put = c .before .before .before .before in
+    let at-read = at-step-to (at-put .before) in
+    omega (arith, in-loop at-read .loop-test .taken, at-start at-read .good .1 .1 .1 .1)
 
 loop-less : tie.Need-loop-less Inv-loop μ-loop
 loop-less c =
-    let in-loop = c .before .before .before .before .before .before .before .before .before .before .before in
-    omega (arith, in-loop .loop-test .taken)
+    let at-put = c .before .before .before .before in
+    omega (arith, in-loop (at-step-to (at-put .before)) .loop-test .taken)
 
 loop-again : tie.Need-loop-again Inv-loop μ-loop
 loop-again c =
     let at-put = c .before .before .before .before in
-    let at-step = at-put .before .before .before in
-    let at-step-to = at-step .before .before in
-    let a = at-start at-step-to .args in
-    stands-more (a .words .now) (a .summary) (a .inventory .now) (a .spill .now) (a .ranks .now) (a .places .now) (at-loop at-step-to .loop .inv)
-    (in-loop at-step-to .loop-test .taken) (at-step-to .step-to .result) (at-step-to .step-to .ensures) _ (at-step .step .given .1)
-    (at-start at-step-to .pre .1) _ (at-put .put .ensures)
+    let at-sample = at-put .before in
+    let at-read = at-step-to at-sample in
+    let a = at-start at-read .args in
+    stands-more (a .words .now) (a .summary) (a .inventory .now) (a .spill .now) (a .ranks .now) (a .places .now) (at-loop at-read .loop .inv)
+    (in-loop at-read .loop-test .taken) (at-read .step-to .result) (at-read .step-to .ensures) _ (at-step at-sample .step .given .1)
+    (at-start at-read .pre .1) _ (at-put .put .ensures ∙ ap (set (at-loop at-read .loop .places) (at-loop at-read .loop .i)) (at-sample .sample-at .ensures))
 
 same-length-2 : tie.Need-same-length-2 Inv-loop μ-loop
 same-length-2 c =
@@ -127,6 +149,7 @@ walk-into-spec =
     enum-told
     same-length
     returns
+    sample-at-requires
     put-requires
     add-total
     add-i
