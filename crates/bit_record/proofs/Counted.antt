@@ -1,14 +1,15 @@
 -- What passing the tests shows of a record, and what a count says of it.
-use mathlib.Core.List.{List}
-use mathlib.Core.Path.{_≡_}
+use mathlib.Core.Bool.{Bool, true, false}
+use mathlib.Core.List.{List, [], _∷_}
+use mathlib.Core.Path.{_≡_, refl}
 use Prim.Native.Nat.{ℕ, _+_, _-_, _^_}
 use native.Mathlib.Omega.{arith}
 use lib.ListN.{length}
 use borrow.Author.Tests.{le-ltb, ltb-false}
 use Rattle.rank_sel.specs.Numbers.{ceilDiv}
-use Rattle.rank_sel.specs.Outcome.{answer, NoneOf}
+use Rattle.rank_sel.specs.Outcome.{Outcome, answer, refuseIf, testBy, NoneOf}
 use Rattle.rank_sel.proofs.Outcome.{answer-is, passed-all}
-use Rattle.bit_record.specs.Record.{numSelected, ofRecord, ofRecordFrom, countOf, Admitted, AdmittedFrom}
+use Rattle.bit_record.specs.Record.{numSelected, lenTooLarge, tooFewWords, ofRecord, ofRecordFrom, countOf, Admitted, AdmittedFrom}
 use Rattle.bit_record.specs.declared.Polarity.{Polarity}
 
 -- neither 1 nor 2 turns the record down
@@ -32,6 +33,14 @@ pub admitted-from-none : (ws : List ℕ) (len origin : ℕ) → AdmittedFrom ws 
 admitted-from-none ws len origin a =
     let n = admitted-none ws len (a .admitted) in
     (n .0, (le-ltb (2 ^ 62 - 1) (origin + len) (omega (arith, a .numbered)), n .1))
+
+-- from 0 on, 14 says nothing that 1 did not
+pub from-zero : (ws : List ℕ) (len : ℕ) → testBy (ofRecordFrom ws len 0) ≡ testBy (ofRecord ws len)
+from-zero ws len = let z : 0 + len ≡ len = omega arith in rw z (go (lenTooLarge len) (testBy ((tooFewWords ws len, 2) ∷ [])))
+  where
+    go : (b : Bool) (rest : Outcome (Unit {0})) → refuseIf b 1 (refuseIf b 14 rest) ≡ refuseIf b 1 rest
+    go true rest = refl
+    go false rest = refl
 
 -- where a count answers, it is N
 pub counted : (ws : List ℕ) (len : ℕ) (pol : Polarity) (n : ℕ) → countOf ws len pol ≡ answer n

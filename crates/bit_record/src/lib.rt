@@ -4,7 +4,7 @@ ghost use Prim.Native.Nat.{_+_, _-_, _*_, _/_, _^_, _≤_, _<_};
 ghost use lib.ListN.{length};
 ghost use Rattle.rank_sel.specs.Outcome.{answered, testBy, tested as testedAs};
 ghost use Rattle.select_in_word.specs.Holds.{Holds};
-ghost use Rattle.bit_record.specs.Record.{Admitted, CountsWords, Finds, bitAt, chosen, complemented, countOf, ofRecord, ofRecordFrom, sampleAt, selected};
+ghost use Rattle.bit_record.specs.Record.{Admitted, CountsWords, Finds, bitAt, chosen, complemented, countOf, ofRecordFrom, originTooLarge, sampleAt, selected};
 use rank_sel::Answer;
 use rank_sel::Refusal;
 use rank_sel::Tested;
@@ -31,31 +31,28 @@ pub enum RecordSeek {
 // The most that a length may be, and a length after an origin.
 const MAX_LEN: u64 = 0x3fff_ffff_ffff_ffff;
 
-// Refusals 1 and 2: the one test of a record.
-pub fn test_record(words: &[u64], len: u64) -> Tested
-    ensures { λ r. ⌜ testedAs r ≡ testBy (ofRecord (now (words .entry)) len) ⌝ }
+// Whether a record from `origin` on passes the last sample number. The sum may pass 2^64: it is not reckoned.
+fn is_origin_too_large(origin: u64, len: u64) -> bool
+    requires { ⌜ len < 2 ^ 62 ⌝ }
+    ensures { λ r. ⌜ r ≡ originTooLarge origin len ⌝ }
 {
-    if len > MAX_LEN {
-        return Tested::Refused(Refusal::LenTooLarge);
-    }
-    if (words.len() as u64) < (len + 63) / 64 {
-        return Tested::Refused(Refusal::TooFewWords);
-    }
-    Tested::Passed
+    origin > MAX_LEN - len
 }
 
-// Refusals 1, 14 and 2: the one test of a record whose bit 0 is sample number `origin`. The sum may pass 2^64: it is not
-// reckoned.
-pub fn test_record_from(words: &[u64], len: u64, origin: u64) -> Tested
+// Refusals 1, 14 and 2: the one test of a record, whose bit 0 is sample number `origin`.
+pub fn test_record(words: &[u64], len: u64, origin: u64) -> Tested
     ensures { λ r. ⌜ testedAs r ≡ testBy (ofRecordFrom (now (words .entry)) len origin) ⌝ }
 {
     if len > MAX_LEN {
         return Tested::Refused(Refusal::LenTooLarge);
     }
-    if origin > MAX_LEN - len {
+    if is_origin_too_large(origin, len) {
         return Tested::Refused(Refusal::OriginTooLarge);
     }
-    test_record(words, len)
+    if (words.len() as u64) < (len + 63) / 64 {
+        return Tested::Refused(Refusal::TooFewWords);
+    }
+    Tested::Passed
 }
 
 // The one place where an origin is added to a position.
@@ -112,11 +109,11 @@ fn count_words(words: &[u64], first: usize, n: usize, polarity: Polarity) -> u64
     total
 }
 
-// How many bits of the record are selected.
+// How many bits of the record are selected. From 0 on, 14 says nothing that 1 did not.
 pub fn count(words: &[u64], len: u64, polarity: Polarity) -> Answer
     ensures { λ r. ⌜ answered r ≡ countOf (now (words .entry)) len polarity ⌝ }
 {
-    let tested = test_record(words, len);
+    let tested = test_record(words, len, 0);
     let Tested::Passed = tested else {
         return Answer::Refused(reason(tested));
     };

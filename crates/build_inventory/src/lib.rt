@@ -12,7 +12,7 @@ mod entry;
 mod index;
 
 use bit_record::Polarity;
-use bit_record::test_record_from;
+use bit_record::test_record;
 use index::fill;
 use index::inventory_count;
 use index::same_index;
@@ -98,7 +98,7 @@ fn admit(
 ) -> Built
     ensures { λ r. ⌜ built r ≡ buildOf (now (words .entry)) len origin polarity choice cells «spill_cells» ⌝ }
 {
-    let tested = test_record_from(words, len, origin);
+    let tested = test_record(words, len, origin);
     let Tested::Passed = tested else {
         return Built::Refused(reason(tested));
     };

@@ -5,7 +5,7 @@ ghost use lib.Dec.{ltb};
 ghost use Rattle.rank_sel.specs.Outcome.{numberOf, testBy, tested};
 ghost use Rattle.spacing.specs.Spacing.{N};
 ghost use Rattle.read_inventory.specs.Tests.{ofIndex, ofRank, ofRanks};
-use bit_record::test_record_from;
+use bit_record::test_record;
 use inventory::Summary;
 use inventory::test_summary;
 use rank_sel::Refusal;
@@ -25,7 +25,7 @@ fn test_lent(lent: u64, count: u64, refusal: Refusal) -> Tested
 pub fn test_index(words: &[u64], summary: Summary, inventory: &[u64], spill: &[u64]) -> Tested
     ensures { λ r. ⌜ tested r ≡ testBy (ofIndex (now (words .entry)) summary (now (inventory .entry)) (now (spill .entry))) ⌝ }
 {
-    let record = test_record_from(words, summary.plan.len, summary.origin);
+    let record = test_record(words, summary.plan.len, summary.origin);
     let Tested::Passed = record else {
         return record;
     };

@@ -9,7 +9,7 @@ use Rattle.rank_sel.proofs.Outcome.{Tells, passed-none, passed-then, stopped-th
 use Rattle.rank_sel.proofs.Rank.{rank-zero}
 use Rattle.select_in_word.proofs.Holds.{holds-ones}
 use Rattle.bit_record.specs.Record.{selected, numSelected, ofRecord, countOf, Admitted}
-use Rattle.bit_record.proofs.Counted.{admitted}
+use Rattle.bit_record.proofs.Counted.{admitted, from-zero}
 use Rattle.bit_record.proofs.Record.{rank-num, words-most}
 use Rattle.bit_record.proofs.count.Statement.{statement}
 use Rattle.bit_record.proofs.count.Tie as tie
@@ -23,7 +23,7 @@ module _ (c : tie.After-enum-told) where
   at-start = at-test .before .before
 
   told : Tells (ofRecord (at-start .args .words .now) (at-start .args .len)) (at-test .test-record .result)
-  told = record { told = at-test .test-record .ensures }
+  told = record { told = at-test .test-record .ensures ∙ from-zero (at-start .args .words .now) (at-start .args .len) }
 
   held : Admitted (at-start .args .words .now) (at-start .args .len)
   held = admitted _ _ (passed-none told (c .enum-told .given .1))
@@ -71,7 +71,7 @@ returns c =
     let at-test = at-refused .before .before in
     let at-start = at-test .before .before in
     let a = at-start .args in
-    stopped-then {cs = ofRecord (a .words .now) (a .len)} (record { told = at-test .test-record .ensures }) (c .reason .result)
+    stopped-then {cs = ofRecord (a .words .now) (a .len)} (record { told = at-test .test-record .ensures ∙ from-zero (a .words .now) (a .len) }) (c .reason .result)
     (at-refused .enum-told2 .given .1) (c .reason .ensures)
     (answer (numSelected (a .polarity) (a .words .now) (a .len)))
 

@@ -13,27 +13,27 @@ use Rattle.build_inventory.proofs.admit.Statement.{statement}
 use Rattle.build_inventory.proofs.admit.Tie as tie
 
 -- the record is tested
-module _ (c : tie.After-test-record-from) where
+module _ (c : tie.After-test-record) where
   abbrev at-start : tie.Start
   at-start = c .before .before
 
-  record-told : let a = at-start .args in Tells (ofRecordFrom (a .words .now) (a .len) (a .origin)) (c .test-record-from .result)
-  record-told = record { told = c .test-record-from .ensures }
+  record-told : let a = at-start .args in Tells (ofRecordFrom (a .words .now) (a .len) (a .origin)) (c .test-record .result)
+  record-told = record { told = c .test-record .ensures }
 
 -- it passes, and the plan is made
 module _ (c : tie.After-plan) where
   abbrev at-passed : tie.After-enum-told
   at-passed = c .before
 
-  abbrev at-test : tie.After-test-record-from
+  abbrev at-test : tie.After-test-record
   at-test = at-passed .before .before
 
   plan-told : let a = at-start at-test .args in
       planned (c .plan .result) ≡ refuseBy (ofRecordFrom (a .words .now) (a .len) (a .origin)) (planOf (a .words .now) (a .len) (a .polarity) (a .choice))
   plan-told = c .plan .ensures ∙ passed-then (record-told at-test) (at-passed .enum-told .given .1) _
 
-test-record-from-requires : tie.Need-test-record-from-requires
-test-record-from-requires c κs = search needs
+test-record-requires : tie.Need-test-record-requires
+test-record-requires c κs = search needs
 
 enum-told : tie.Need-enum-told
 enum-told c = search needs
@@ -88,7 +88,7 @@ pub admit-spec : {M : Type 1} → statement M
 admit-spec =
     tie.close
     (tie.spec
-    test-record-from-requires
+    test-record-requires
     enum-told
     enum-told-2
     reason-requires

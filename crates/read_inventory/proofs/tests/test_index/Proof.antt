@@ -14,20 +14,20 @@ use Rattle.read_inventory.proofs.tests.test_index.Statement.{statement}
 use Rattle.read_inventory.proofs.tests.test_index.Tie as tie
 
 -- the record is tested
-module _ (c : tie.After-test-record-from) where
+module _ (c : tie.After-test-record) where
   abbrev at-start : tie.Start
   at-start = c .before .before .before .before
 
   record-told : let a = at-start .args in
-      Tells (ofRecordFrom (a .words .now) (a .summary .plan .len) (a .summary .origin)) (c .test-record-from .result)
-  record-told = record { told = c .test-record-from .ensures }
+      Tells (ofRecordFrom (a .words .now) (a .summary .plan .len) (a .summary .origin)) (c .test-record .result)
+  record-told = record { told = c .test-record .ensures }
 
 -- so is the summary: what the cells' tests tell is told by all, where it passes
 module _ (c : tie.After-test-summary) where
   abbrev at-passed : tie.After-enum-told
   at-passed = c .before
 
-  abbrev at-record : tie.After-test-record-from
+  abbrev at-record : tie.After-test-record
   at-record = at-passed .before .before
 
   abbrev cells : Conditions
@@ -57,8 +57,8 @@ module _ (c : tie.After-test-lent) where
       Tells ((inventoryTooShort (a .summary) (a .inventory .now), 6) ∷ []) (c .test-lent .result)
   inventory-told = record { told = c .test-lent .ensures }
 
-test-record-from-requires : tie.Need-test-record-from-requires
-test-record-from-requires c κs = search needs
+test-record-requires : tie.Need-test-record-requires
+test-record-requires c κs = search needs
 
 enum-told : tie.Need-enum-told
 enum-told c = search needs
@@ -123,7 +123,7 @@ pub test-index-spec : {M : Type 1} → statement M
 test-index-spec =
     tie.close
     (tie.spec
-    test-record-from-requires
+    test-record-requires
     enum-told
     enum-told-2
     returns
