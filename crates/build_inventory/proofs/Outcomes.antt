@@ -82,8 +82,12 @@ module _ (ws : List ℕ) (len origin : ℕ) (pol : Polarity) (choice : Choice) (
         spill-room = omega (arith, h .spill, ltb-false spill (s .0 .spill) (g .0));
       }
 
--- the counts in a summary of the record and the choice
+-- the origin and the counts in a summary of the record and the choice
 module _ (ws : List ℕ) (origin : ℕ) (t : Summary) (is : t ≡ summaryOf (posIn ws (t .plan)) (t .plan) origin) where
+  pub origin-handed : t .origin ≡ origin
+  unfolding summaryOf
+  origin-handed = ap (λ (z : Summary). z .origin) is
+
   pub inventory-counted : inventoryLenOf (t .plan) ≡ t .«inventory_len»
   unfolding summaryOf
   inventory-counted = ap (λ (z : Summary). z .«inventory_len») (sym is)

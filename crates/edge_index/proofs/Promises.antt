@@ -1,9 +1,9 @@
 -- The promises: a check that says yes found the index of an admitted build within the counts; so did build leave it, and so
 -- it is found again in any cells that are the same there, with any words that hold the same record.
-use mathlib.Core.Bool.{true, and-eq-true-iff}
+use mathlib.Core.Bool.{Bool, true, false, and-eq-true-iff}
 use mathlib.Core.List.{List, _++_}
 use mathlib.Core.Logic.{_↔_}
-use mathlib.Core.Path.{_≡_, sym, ap, _∙_, subst}
+use mathlib.Core.Path.{_≡_, refl, sym, ap, _∙_, subst}
 use Prim.Native.Nat.{ℕ, _≤_, _<_}
 use native.Mathlib.Omega.{arith}
 use lib.ListN.{length, take, drop, length-append, take-append-drop}
@@ -21,7 +21,7 @@ use Rattle.build_inventory.specs.Build.{checkOf, sameSummary}
 use Rattle.build_inventory.specs.Compare.{sameIndex, sameList}
 use Rattle.build_inventory.specs.Positions.{posIn}
 use Rattle.build_inventory.proofs.Comparing.{same-is, same-yes}
-use Rattle.build_inventory.proofs.Outcomes.{Admission, admission, admitted-on, inventory-counted, spill-counted}
+use Rattle.build_inventory.proofs.Outcomes.{Admission, admission, admitted-on, origin-handed, inventory-counted, spill-counted}
 use Rattle.build_inventory.proofs.Summaries.{summary-is, summary-same}
 use Rattle.edge_index.specs.Promises.{SameCells, AsThen, Stands, buildAnswers, inventoryHolds, spillHolds, Promises}
 use Rattle.edge_index.specs.Sound.{Sound}
@@ -138,6 +138,15 @@ module _ (ws : List ℕ) (len origin : ℕ) (pol : Polarity) (choice : Choice) w
       rw (i, s) at
       (held-sound t (length inv) (length sp) (admits t inv sp (y .builds)) (drop (t .«inventory_len») inv) (drop (t .«spill_len») sp))
 
+  other-origin : (t u : Summary) (inv sp : List ℕ) → buildAnswers ws len origin pol choice inv sp ≡ answer u → (t .origin ≡ origin → ⊥)
+      → checkOf ws len origin pol choice t inv sp ≡ answer false
+  unfolding checkOf
+  other-origin t u inv sp e n = go (sameSummary t u) refl
+    where
+      go : (b : Bool) → sameSummary t u ≡ b → checkOf ws len origin pol choice t inv sp ≡ answer false
+      go true d = absurd (n (ap (λ (z : Summary). z .origin) (summary-is t u d) ∙ origin-handed ws origin u (admits u inv sp e .is)))
+      go false d = rw (e, d)
+
   check-refusal : (t : Summary) (inv sp : List ℕ) (n : ℕ)
       → (checkOf ws len origin pol choice t inv sp ≡ refused n) ↔ (buildAnswers ws len origin pol choice inv sp ≡ refused n)
   unfolding checkOf
@@ -172,6 +181,7 @@ module _ (ws : List ℕ) (len origin : ℕ) (pol : Polarity) (choice : Choice) w
           (b, rw b (begins (t .«inventory_len») inv _ (y .inventory-is)), rw b (begins (t .«spill_len») sp _ (y .spill-is)))),
       (λ h. yes-checked ws len origin pol choice t inv sp (rw (h .1, h .2) at (built-yes ws len origin pol choice t inv sp (h .0)))),
     );
+    check-origin = other-origin ws len origin pol choice;
     check-refuses = λ t inv sp n. check-refusal ws len origin pol choice t inv sp n;
     sound-right = λ t inv sp s. right ws len origin pol choice t inv sp s;
     refused-untouched = λ inv sp n e. (rw e, rw e);

@@ -1,5 +1,5 @@
 -- The promises, over all records, origins, both polarities and all choices. Statements; the proofs are in proofs/Promises.antt.
-use mathlib.Core.Bool.{true}
+use mathlib.Core.Bool.{true, false}
 use mathlib.Core.List.{List}
 use mathlib.Core.Logic.{_↔_}
 use mathlib.Core.Path.{_≡_}
@@ -57,6 +57,9 @@ module _ (ws : List ℕ) (len origin : ℕ) (pol : Polarity) (choice : Choice) w
     -- check says yes exactly where build would answer this summary and leave these cells
     pub check-exact : (t : Summary) (inv sp : List ℕ)
         → (checkOf ws len origin pol choice t inv sp ≡ answer true) ↔ ((buildAnswers inv sp ≡ answer t) × (inventoryHolds inv sp ≡ inv) × (spillHolds inv sp ≡ sp))
+    -- where build would answer, a summary with another origin than the one handed in is a no, whatever that origin is
+    pub check-origin : (t u : Summary) (inv sp : List ℕ) → buildAnswers inv sp ≡ answer u → (t .origin ≡ origin → ⊥)
+        → checkOf ws len origin pol choice t inv sp ≡ answer false
     -- check refuses exactly as build does, and by the same number
     pub check-refuses : (t : Summary) (inv sp : List ℕ) (n : ℕ) → (checkOf ws len origin pol choice t inv sp ≡ refused n) ↔ (buildAnswers inv sp ≡ refused n)
     -- demand 2, on every index that has demand 3

@@ -118,9 +118,10 @@ loop-again c =
     let at-sample = at-put .before in
     let at-read = at-step-to at-sample in
     let a = at-start at-read .args in
-    stands-more (a .words .now) (a .summary) (a .inventory .now) (a .spill .now) (a .ranks .now) (a .places .now) (at-loop at-read .loop .inv)
+    let l = at-loop at-read .loop in
+    stands-more (a .words .now) (a .summary) (a .inventory .now) (a .spill .now) (a .ranks .now) (a .places .now) (l .inv)
     (in-loop at-read .loop-test .taken) (at-read .step-to .result) (at-read .step-to .ensures) _ (at-step at-sample .step .given .1)
-    (at-start at-read .pre .1) _ (at-put .put .ensures ∙ ap (set (at-loop at-read .loop .places) (at-loop at-read .loop .i)) (at-sample .sample-at .ensures))
+    (at-start at-read .pre .1) _ (at-put .put .ensures ∙ ap (set (l .places) (l .i)) (at-sample .sample-at .ensures))
 
 same-length-2 : tie.Need-same-length-2 Inv-loop μ-loop
 same-length-2 c =
