@@ -6,9 +6,11 @@ use mathlib.Core.Option.{Option, none, some}
 use Prim.Native.Nat.{ℕ, zero, suc, _+_, _≤_, _<_}
 use native.Mathlib.Nat.{add-zero, add-suc, suc-add}
 use native.Mathlib.Omega.{arith}
+use Rattle.rank_sel.specs.Outcome.{answer, orRefuse}
 use Rattle.rank_sel.specs.Rank.{rank}
 use Rattle.rank_sel.specs.Seek.{onHere, seek, Sought, Exact}
 use Rattle.rank_sel.proofs.Numbers.{lt-or-le}
+use Rattle.rank_sel.proofs.Outcome.{is-some}
 use Rattle.rank_sel.proofs.Rank.{rank-one, rank-same, rank-lt}
 
 pub sought-unique : (f : ℕ → Bool) (p q : ℕ) → f p ≡ true → f q ≡ true → rank f p ≡ rank f q → p ≡ q
@@ -32,6 +34,10 @@ seek-found f (suc n) x k p e = go (λ r. seek-found f n (suc x) r p) (f x) refl 
     go ih false h r q =
         let s = ih r q in
         record { low = omega arith; high = omega arith; here = s .here; before = omega (arith, rank-same f x h) }
+
+-- an answer that comes from a seek
+pub answer-sought : (f : ℕ → Bool) (n x k p m : ℕ) → orRefuse m (seek f n x k) ≡ answer p → Sought f n x k p
+answer-sought f n x k p m e = seek-found f n x k p (is-some m (seek f n x k) p e)
 
 pub seek-none : (f : ℕ → Bool) (n x k : ℕ) → seek f n x k ≡ none → rank f (x + n) ≤ rank f x + k
 unfolding seek

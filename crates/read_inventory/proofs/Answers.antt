@@ -9,8 +9,8 @@ use lib.Dec.{leb, ltb}
 use borrow.Author.Tests.{ltb-false, leb-false}
 use Rattle.rank_sel.specs.Outcome.{Outcome, answer, refused, refuseIf, orRefuse, andThen}
 use Rattle.rank_sel.specs.Seek.{seek}
-use Rattle.rank_sel.proofs.Outcome.{answer-is, is-some, not-refused, then-answer}
-use Rattle.rank_sel.proofs.Seek.{seek-found}
+use Rattle.rank_sel.proofs.Outcome.{answer-is, not-refused, then-answer}
+use Rattle.rank_sel.proofs.Seek.{answer-sought}
 use Rattle.bit_record.specs.Record.{selected, sampleAt}
 use Rattle.spacing.specs.Spacing.{L, M}
 use Rattle.inventory.specs.Index.{stride}
@@ -102,7 +102,7 @@ module _ (ws : List ℕ) (t : Summary) (inv sp : List ℕ) (r : ℕ) where
           → cond b (answer (m .at)) (orRefuse 10 (seek f (len - m .at) (m .at) (m .residual))) ≡ answer p → p < len
       go m l true d = omega (arith, answer-is d)
       go m l false d =
-          let s = seek-found f (len - m .at) (m .at) (m .residual) p (is-some 10 _ p d) in
+          let s = answer-sought f (len - m .at) (m .at) (m .residual) p 10 d in
           omega (arith, s .high)
 
   pub sample-stops : (o : Outcome ℕ) (n : ℕ) → o ≡ positionOf ws t inv sp r → o ≡ refused n → o ≡ sampleOf ws t inv sp r

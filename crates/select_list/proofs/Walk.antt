@@ -16,8 +16,8 @@ use Rattle.rank_sel.specs.Outcome.{Outcome, answer, refused, orRefuse, andThen}
 use Rattle.rank_sel.specs.Seek.{seek}
 use Rattle.rank_sel.specs.declared.Answer.the-variants as Answer·v
 use Rattle.rank_sel.specs.declared.Refusal.the-variants.{CellsUnlawful}
-use Rattle.rank_sel.proofs.Outcome.{never, answer-is, is-some, then-answer}
-use Rattle.rank_sel.proofs.Seek.{seek-found}
+use Rattle.rank_sel.proofs.Outcome.{never, answer-is, then-answer}
+use Rattle.rank_sel.proofs.Seek.{answer-sought}
 use Rattle.bit_record.specs.Record.{selected, sampleAt}
 use Rattle.inventory.specs.declared.summary.Summary.{Summary}
 use Rattle.read_inventory.specs.Read.{Mark, markOfRank}
@@ -68,48 +68,31 @@ words-total len (some b) total from p h l le = go (eqb (from / 64) (b .at / 64))
         let i : (from / 64 ≡ b .at / 64) → ⊥ = eqb-false (from / 64) (b .at / 64) e in
         rw e (omega arith)
 
+-- a step's words are counted so, and its position lies in the record
+abbrev Kept : ℕ → ℕ → Step → Type 0
+Kept len total y = Total len (y .last) (total + y .words) × (y .position < len)
+
 module _ (f : ℕ → Bool) (len : ℕ) (last : Option Reached) (r total : ℕ) (h : Total len last total) (x : Step) where
-  read-total : (s : Start) → NotBefore last (s .from) → readFrom f len last r s ≡ answer x → Total len (x .last) (total + x .words)
+  read-kept : (s : Start) → NotBefore last (s .from) → readFrom f len last r s ≡ answer x → Kept len total x
   unfolding readFrom
-  read-total s l e =
+  read-kept s l e =
       let a = then-answer (orRefuse 10 (seek f (len - s .from) (s .from) (s .passes))) (λ p. answer (reachedBy last r (s .from) p)) x e in
-      let b = seek-found f (len - s .from) (s .from) (s .passes) (a .0) (is-some 10 _ (a .0) (a .1)) in
-      subst (λ (y : Step). Total len (y .last) (total + y .words)) (answer-is (a .2))
-      (words-total len last total (s .from) (a .0) h l (b .low), omega (arith, b .low, b .high))
+      let b = answer-sought f (len - s .from) (s .from) (s .passes) (a .0) 10 (a .1) in
+      let p : a .0 < len = omega (arith, b .low, b .high) in
+      subst (Kept len total) (answer-is (a .2)) ((words-total len last total (s .from) (a .0) h l (b .low), p), p)
 
-  from-total : (b : Bool) (m : Mark) → cond b (answer (atMark last m)) (readFrom f len last r (startOf last r m)) ≡ answer x
-      → Total len (x .last) (total + x .words)
-  from-total true m e =
-      subst (λ (y : Step). Total len (y .last) (total + y .words)) (answer-is e) (subst (Total len last) (sym (add-zero total)) h)
-  from-total false m e = read-total (startOf last r m) (start-after last r m) e
+  from-kept : (b : Bool) (m : Mark) → m .at < len
+      → cond b (answer (atMark last m)) (readFrom f len last r (startOf last r m)) ≡ answer x → Kept len total x
+  from-kept true m l e = subst (Kept len total) (answer-is e) (subst (Total len last) (sym (add-zero total)) h, l)
+  from-kept false m l e = read-kept (startOf last r m) (start-after last r m) e
 
-step-total : (ws : List ℕ) (t : Summary) (inv sp : List ℕ) (last : Option Reached) (r total : ℕ) (x : Step)
-    → Total (t .plan .len) last total → answer x ≡ stepOf ws t inv sp last r → Total (t .plan .len) (x .last) (total + x .words)
+step-kept : (ws : List ℕ) (t : Summary) (inv sp : List ℕ) (last : Option Reached) (r total : ℕ) (x : Step)
+    → Total (t .plan .len) last total → answer x ≡ stepOf ws t inv sp last r → Kept (t .plan .len) total x
 unfolding stepOf stepFrom
-step-total ws t inv sp last r total x h e =
+step-kept ws t inv sp last r total x h e =
     let f = selected (t .plan .polarity) ws (t .plan .len) in
     let a = then-answer (markOfRank t inv sp r) (stepFrom f (t .plan .len) last r) x (sym e) in
-    from-total f (t .plan .len) last r total h x (a .0 .exact) (a .0) (a .2)
-
--- ---- a rank's position lies in the record
-module _ (f : ℕ → Bool) (len : ℕ) (last : Option Reached) (r : ℕ) (x : Step) where
-  from-low : (b : Bool) (m : Mark) → m .at < len
-      → cond b (answer (atMark last m)) (readFrom f len last r (startOf last r m)) ≡ answer x → x .position < len
-  unfolding readFrom
-  from-low true m l e = subst (λ (y : Step). y .position < len) (answer-is e) l
-  from-low false m l e =
-      let s : Start = startOf last r m in
-      let a = then-answer (orRefuse 10 (seek f (len - s .from) (s .from) (s .passes))) (λ p. answer (reachedBy last r (s .from) p)) x e in
-      let b = seek-found f (len - s .from) (s .from) (s .passes) (a .0) (is-some 10 _ (a .0) (a .1)) in
-      subst (λ (y : Step). y .position < len) (answer-is (a .2)) (omega (arith, b .low, b .high))
-
-step-low : (ws : List ℕ) (t : Summary) (inv sp : List ℕ) (last : Option Reached) (r : ℕ) (x : Step)
-    → answer x ≡ stepOf ws t inv sp last r → x .position < t .plan .len
-unfolding stepOf stepFrom
-step-low ws t inv sp last r x e =
-    let f = selected (t .plan .polarity) ws (t .plan .len) in
-    let a = then-answer (markOfRank t inv sp r) (stepFrom f (t .plan .len) last r) x (sym e) in
-    from-low f (t .plan .len) last r x (a .0 .exact) (a .0) (mark-low t inv sp r (a .0) (a .1)) (a .2)
+    from-kept f (t .plan .len) last r total h x (a .0 .exact) (a .0) (mark-low t inv sp r (a .0) (a .1)) (a .2)
 
 -- ---- after i ranks
 module _ (ws : List ℕ) (t : Summary) (inv sp ranks : List ℕ) where
@@ -185,14 +168,14 @@ module _ (ws : List ℕ) (t : Summary) (inv sp ranks : List ℕ) where
           taken =
               subst (Advances f (t .plan .len) (getD ranks i 0) (stepOf ws t inv sp (lastOf h) (getD ranks i 0))) e a
 
-          total-next : Total (t .plan .len) (lastOf (y .hand)) (total + y .words)
-          total-next = step-total ws t inv sp (lastOf h) (getD ranks i 0) total (stepBy y) (s .counted) (taken .told)
+          kept : Kept (t .plan .len) total (stepBy y)
+          kept = step-kept ws t inv sp (lastOf h) (getD ranks i 0) total (stepBy y) (s .counted) (taken .told)
 
           pub stands-small : t .plan .len < 2 ^ 62 → total + y .words < 2 ^ 62
-          stands-small k = total-small (t .plan .len) (lastOf (y .hand)) (total + y .words) total-next k
+          stands-small k = total-small (t .plan .len) (lastOf (y .hand)) (total + y .words) (kept .0) k
 
           pub stands-low : y .position < t .plan .len
-          stands-low = step-low ws t inv sp (lastOf h) (getD ranks i 0) (stepBy y) (taken .told)
+          stands-low = kept .1
 
           pub stands-more : Walkable t inv sp ranks → (l′ : List ℕ) → l′ ≡ set l i (sample (y .position))
               → Stands l′ (y .hand) (total + y .words) (i + 1)
@@ -201,7 +184,7 @@ module _ (ws : List ℕ) (t : Summary) (inv sp ranks : List ℕ) where
             found = length-append (s .positions) (y .position ∷ []) ∙ omega (arith, s .found);
             within = omega arith;
             goes = rw (add-one i) (walk-next ∙ rw e);
-            counted = total-next;
+            counted = kept .0;
             hand = taken .hand .0;
             before = λ j. omega (arith, taken .hand .1, k .rising i j);
             places =
