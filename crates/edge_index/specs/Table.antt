@@ -179,15 +179,15 @@ lists =
     ∷ []
 
 -- ---- origins
--- A's ones from an origin on: what each reader answers
-abbrev pub readFrom : ℕ → List (Outcome ℕ)
-readFrom origin = map (selectOf A (onesFrom origin) cellsA []) (0 ∷ 1 ∷ 2 ∷ 3 ∷ [])
+-- what jump answers for each of A's ones, from an origin on
+abbrev pub jumpsFrom : ℕ → List (Outcome ℕ)
+jumpsFrom origin = map (selectOf A (onesFrom origin) cellsA []) (0 ∷ 1 ∷ 2 ∷ 3 ∷ [])
 
 abbrev pub origins : List Line
 origins =
     -- A, origin 100: cells, the closing one and the dwell stay; jump, hint's mark and list are from the origin on
     line (buildsFrom 100 A 10 Ones (Power 1 0) 5) (answer (onesFrom 100), cellsA)
-    ∷ line (readFrom 100) (answer 101 ∷ answer 104 ∷ answer 106 ∷ answer 109 ∷ [])
+    ∷ line (jumpsFrom 100) (answer 101 ∷ answer 104 ∷ answer 106 ∷ answer 109 ∷ [])
     ∷ line (hintOf A (onesFrom 100) cellsA [] 3) (answer (record { mark = 109; rank = 3 }))
     ∷ line (dwellOf A (onesFrom 100) cellsA [] 0 3) (answer 8)
     ∷ line (subinventoryOf A (onesFrom 100) cellsA [] 3) (ofInventory 3 1)
@@ -206,7 +206,7 @@ origins =
     ∷ line (checkOf A 10 100 Ones (Power 1 0) (onesFrom (2 ^ 64 - 1)) cellsA []) (answer false)
     ∷ line (checkOf A 10 (2 ^ 64 - 1) Ones (Power 1 0) (onesFrom (2 ^ 64 - 1)) cellsA []) (refused 14)
     -- the readers, by the summary's
-    ∷ line (readFrom (2 ^ 62 - 10)) (refused 14 ∷ refused 14 ∷ refused 14 ∷ refused 14 ∷ [])
+    ∷ line (jumpsFrom (2 ^ 62 - 10)) (refused 14 ∷ refused 14 ∷ refused 14 ∷ refused 14 ∷ [])
     ∷ line (hintOf A (onesFrom (2 ^ 62 - 10)) cellsA [] 3) (refused 14)
     ∷ line (dwellOf A (onesFrom (2 ^ 62 - 10)) cellsA [] 0 3) (refused 14)
     ∷ line (subinventoryOf A (onesFrom (2 ^ 62 - 10)) cellsA [] 3) empty

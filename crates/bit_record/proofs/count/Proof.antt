@@ -14,26 +14,31 @@ use Rattle.bit_record.proofs.Record.{rank-num, words-most}
 use Rattle.bit_record.proofs.count.Statement.{statement}
 use Rattle.bit_record.proofs.count.Tie as tie
 
--- the test was passed
+-- the test has spoken
+module _ (c : tie.After-test-record) where
+  abbrev at-start : tie.Start
+  at-start = c .before .before
+
+  told : let a = at-start .args in Tells (ofRecord (a .words .now) (a .len)) (c .test-record .result)
+  told = let a = at-start .args in record { told = c .test-record .ensures ∙ from-zero (a .words .now) (a .len) }
+
+-- it was passed
 module _ (c : tie.After-enum-told) where
   abbrev at-test : tie.After-test-record
   at-test = c .before .before
 
-  abbrev at-start : tie.Start
-  at-start = at-test .before .before
+  abbrev at-begin : tie.Start
+  at-begin = at-start at-test
 
-  told : Tells (ofRecord (at-start .args .words .now) (at-start .args .len)) (at-test .test-record .result)
-  told = record { told = at-test .test-record .ensures ∙ from-zero (at-start .args .words .now) (at-start .args .len) }
+  held : Admitted (at-begin .args .words .now) (at-begin .args .len)
+  held = admitted _ _ (passed-none (told at-test) (c .enum-told .given .1))
 
-  held : Admitted (at-start .args .words .now) (at-start .args .len)
-  held = admitted _ _ (passed-none told (c .enum-told .given .1))
-
-  answers : (n : ℕ) → n ≡ numSelected (at-start .args .polarity) (at-start .args .words .now) (at-start .args .len)
-      → answer n ≡ countOf (at-start .args .words .now) (at-start .args .len) (at-start .args .polarity)
+  answers : let a = at-begin .args in
+      (n : ℕ) → n ≡ numSelected (a .polarity) (a .words .now) (a .len) → answer n ≡ countOf (a .words .now) (a .len) (a .polarity)
   unfolding countOf
   answers n e =
-      ap answer e ∙ passed-then told (c .enum-told .given .1)
-      (answer (numSelected (at-start .args .polarity) (at-start .args .words .now) (at-start .args .len)))
+      let a = at-begin .args in
+      ap answer e ∙ passed-then (told at-test) (c .enum-told .given .1) (answer (numSelected (a .polarity) (a .words .now) (a .len)))
 
 -- the whole words are counted
 module _ (c : tie.After-count-words) where
@@ -41,7 +46,7 @@ module _ (c : tie.After-count-words) where
   at-passed = c .before
 
   abbrev at-open : tie.Start
-  at-open = at-start at-passed
+  at-open = at-begin at-passed
 
   whole : c .count-words .result ≡ rank (selected (at-open .args .polarity) (at-open .args .words .now) (at-open .args .len))
       (64 * (at-open .args .len / 64))
@@ -68,11 +73,9 @@ returns : tie.Need-returns
 unfolding countOf
 returns c =
     let at-refused = c .before in
-    let at-test = at-refused .before .before in
-    let at-start = at-test .before .before in
-    let a = at-start .args in
-    stopped-then {cs = ofRecord (a .words .now) (a .len)} (record { told = at-test .test-record .ensures ∙ from-zero (a .words .now) (a .len) }) (c .reason .result)
-    (at-refused .enum-told2 .given .1) (c .reason .ensures)
+    let at-record = at-refused .before .before in
+    let a = at-start at-record .args in
+    stopped-then (told at-record) (c .reason .result) (at-refused .enum-told2 .given .1) (c .reason .ensures)
     (answer (numSelected (a .polarity) (a .words .now) (a .len)))
 
 count-words-requires : tie.Need-count-words-requires
