@@ -1,7 +1,7 @@
 /* Decklerose: the edge index, for C. Implemented and proved in crates/edge_index_c; `rt staticlib edge_index_c` writes
  * target/staticlib/libedge_index_c.a, which needs nothing but the C library (of which it calls memset). x86-64 Linux.
  *
- * Every call returns 0, or the number of the refusal that turned it down (1 to 14, below), or EDGE_INDEX_BAD_CODE for a
+ * Every call returns 0, or the number of the refusal that turned it down (1 to 16, below), or EDGE_INDEX_BAD_CODE for a
  * polarity or a kind of choice that is none, which is tested first. On anything but 0 nothing behind a pointer changes.
  *
  * A record is `words_len` words, of which the first `len` bits count: bit p is bit p mod 64, lowest first, of word
@@ -28,6 +28,8 @@
  *   12  a list in which a rank is below the one before it
  *   13  a list with fewer places than ranks
  *   14  origin plus len over 2^62 - 1, as whole numbers
+ *   15  bytes that are no image: a header or a byte length against the rules
+ *   16  a place shorter than the image
  */
 #ifndef EDGE_INDEX_H
 #define EDGE_INDEX_H
@@ -133,6 +135,22 @@ uint32_t edge_index_select_list(const uint64_t *words, size_t words_len, const e
                                 const uint64_t *inventory, size_t inventory_len, const uint64_t *spill, size_t spill_len,
                                 const uint64_t *ranks, size_t ranks_len, uint64_t *places, size_t places_len,
                                 uint64_t *words_read);
+
+/* Write image: an index as bytes, to be kept beside its capture, at the start of the lent place; bytes past the image stay as they
+ * are, and so do all on a refusal. written: the image's byte length, 88 + 8 * (inventory_len + spill_len of the summary). The image
+ * is u64 fields, lowest byte first: polarity, len, N, origin, L, M, S, inventory count, inventory byte offset (88), spill count, spill
+ * byte offset; then the counted cells of the inventory, then those of the spill. `bytes` needs no alignment.
+ * Refusals, in this order: 1, 14, 9, 6, 7, 16. */
+uint32_t edge_index_write_image(const edge_index_summary *summary,
+                                const uint64_t *inventory, size_t inventory_len, const uint64_t *spill, size_t spill_len,
+                                uint8_t *bytes, size_t bytes_len, uint64_t *written);
+
+/* Read image: the summary and the cells of an image, as they were when it was written; cells past the counts stay as they are, and so
+ * do all on a refusal. Any cells are taken: check before the first jump, as after a restart. A polarity over 1 is 15 here.
+ * Refusals, in this order: 15, 6, 7. */
+uint32_t edge_index_read_image(const uint8_t *bytes, size_t bytes_len,
+                               uint64_t *inventory, size_t inventory_len, uint64_t *spill, size_t spill_len,
+                               edge_index_summary *summary);
 
 /* In-word select: the position of the one of this rank in one word.
  * Refusal 8. */

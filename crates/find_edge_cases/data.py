@@ -1,5 +1,6 @@
-# Writes stdin and data/: document 01's record A in 16 samples, record C in 65,544, D with two entries that spill, and
-# the command lines, one to a line, a double space standing for an empty argument.
+# Writes stdin and data/: document 01's record A in 16 samples, B with as many edges, record C in 65,544, D with two entries that
+# spill, and the command lines, one to a line, a double space standing for an empty argument. They run in this order, and an index
+# that one saves is there for the next.
 def write(name, samples, edges):
     bits = bytearray(samples // 8)
     for p in edges:
@@ -9,6 +10,7 @@ def write(name, samples, edges):
 
 write("stdin", 16, [1, 4, 6, 9])
 write("data/a.bin", 16, [1, 4, 6, 9])
+write("data/b.bin", 16, [0, 2, 5, 9])
 write("data/c.bin", 65544, [0, 65539])
 write("data/d.bin", 131080, [0, 65539, 65540, 131079])
 
@@ -36,6 +38,26 @@ c.bin --zeros --overhead 14.062
 c.bin --zeros --overhead 14.063
 c.bin --power 1
 c.bin --power 1 1
+a.bin --samples 10 --power 1 --origin 100 --save a.index
+a.bin --samples 10 --power 1 --origin 100 --index a.index 0 1 2 3
+b.bin --samples 10 --power 1 --origin 100 --save b.index 1
+a.bin --samples 10 --power 1 --origin 100 --index b.index 1
+a.bin --samples 10 --power 1 --index a.index 1
+a.bin --index a.index
+c.bin --power 1 --index a.index
+c.bin --zeros --save c.index 65541
+c.bin --zeros --index c.index 65541
+a.bin --power 64 --save a.index
+a.bin --samples 10 --power 1 --origin 100 --index a.index 3
+d.bin --zeros --power 4 --save d.index
+a.bin --index nosuch.index
+a.bin --index a.bin
+a.bin --index d.bin
+a.bin --index .
+a.bin --save nosuch/a.index
+a.bin --save a.index --index a.index
+a.bin --save
+a.bin --index
 nosuch.bin
 a.bin/b
 .

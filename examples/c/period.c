@@ -1,8 +1,8 @@
 /* The period of a square wave, from C.
  *
  * The record holds one bit for each sample, a one where the level changes; its first sample is number 250,000 of a
- * longer stream. Every 500 samples the wave rises or falls, so a period is two edges on. The program lends the library
- * its buffers and frees them itself. */
+ * longer stream. Every 500 samples the wave rises or falls, so a period is two edges on. The index is saved as an image,
+ * opened again and checked. The program lends the library its buffers and frees them itself. */
 #include "edge_index.h"
 
 #include <inttypes.h>
@@ -34,20 +34,32 @@ int main(void) {
     /* A length of 0 may come with any pointer, and calloc may give NULL for it. */
     uint64_t *inventory = calloc(inventory_len, sizeof *inventory);
     uint64_t *spill = calloc(spill_len, sizeof *spill);
-    if (inventory == NULL || (spill == NULL && spill_len != 0)) {
+    const size_t image_len = 88 + 8 * (inventory_len + spill_len);
+    uint8_t *image = malloc(image_len);
+    if (inventory == NULL || (spill == NULL && spill_len != 0) || image == NULL) {
         fprintf(stderr, "no memory\n");
+        free(image);
         free(spill);
         free(inventory);
         return EXIT_FAILURE;
     }
 
     edge_index_summary summary;
-    uint64_t yes = 0, first = 0, third = 0, period = 0, words_read = 0;
+    uint64_t written = 0, yes = 0, first = 0, third = 0, period = 0, words_read = 0;
     const uint64_t ranks[] = {1000, 1001, 1002};
     uint64_t places[3] = {0};
     const char *call = "build";
     number = edge_index_build(words, WORDS, SAMPLES, ORIGIN, EDGE_INDEX_ONES, EDGE_INDEX_DEFAULT, 0, 0.0, 0, inventory,
                               inventory_len, spill, spill_len, &summary);
+    if (number == 0) {
+        call = "write_image";
+        number = edge_index_write_image(&summary, inventory, inventory_len, spill, spill_len, image, image_len, &written);
+    }
+    /* Next week: summary and cells come from the image, and are checked before the first jump. */
+    if (number == 0) {
+        call = "read_image";
+        number = edge_index_read_image(image, written, inventory, inventory_len, spill, spill_len, &summary);
+    }
     if (number == 0) {
         call = "check";
         number = edge_index_check(words, WORDS, SAMPLES, ORIGIN, EDGE_INDEX_ONES, EDGE_INDEX_DEFAULT, 0, 0.0, 0, &summary,
@@ -71,6 +83,7 @@ int main(void) {
                                         places, 3, &words_read);
     }
     if (number == 0) {
+        printf("image: %" PRIu64 " bytes\n", written);
         printf("edges: %" PRIu64 ", checked: %s\n", summary.num, yes ? "yes" : "no");
         printf("edge 1000 at %" PRIu64 ", edge 1002 at %" PRIu64 "\n", first, third);
         printf("period: %" PRIu64 " samples\n", period);
@@ -81,7 +94,12 @@ int main(void) {
         uint32_t no = edge_index_select(words, WORDS, &summary, inventory, inventory_len, spill, spill_len,
                                         summary.num, &first);
         printf("edge %" PRIu64 ": refusal %" PRIu32 ", still %" PRIu64 "\n", summary.num, no, first);
+
+        /* A byte is missing. */
+        no = edge_index_read_image(image, written - 1, inventory, inventory_len, spill, spill_len, &summary);
+        printf("a byte less: refusal %" PRIu32 "\n", no);
     }
+    free(image);
     free(spill);
     free(inventory);
     return number == 0 ? EXIT_SUCCESS : refused(call, number);

@@ -1,6 +1,6 @@
 -- A record and what is selected in it. Document 01, "What it covers".
 use mathlib.Core.Bool.{Bool, not, _&&_}
-use mathlib.Core.List.{List, [], _∷_}
+use mathlib.Core.List.{List, [], _∷_, _++_}
 use mathlib.Core.Option.{Option, none, some}
 use mathlib.Core.Path.{_≡_}
 use Prim.Native.Nat.{ℕ, _+_, _-_, _*_, _/_, _%_, _^_, _≤_, _<_}
@@ -54,9 +54,13 @@ tooFewWords ws len = ltb (length ws) (ceilDiv len 64)
 abbrev pub ofRecord : List ℕ → ℕ → Conditions
 ofRecord ws len = (lenTooLarge len, 1) ∷ (tooFewWords ws len, 2) ∷ []
 
+-- of a len and an origin alone, without words
+abbrev pub ofLen : ℕ → ℕ → Conditions
+ofLen len origin = (lenTooLarge len, 1) ∷ (originTooLarge origin len, 14) ∷ []
+
 -- where an origin is handed in, or a summary, which has one
 abbrev pub ofRecordFrom : List ℕ → ℕ → ℕ → Conditions
-ofRecordFrom ws len origin = (lenTooLarge len, 1) ∷ (originTooLarge origin len, 14) ∷ (tooFewWords ws len, 2) ∷ []
+ofRecordFrom ws len origin = ofLen len origin ++ ((tooFewWords ws len, 2) ∷ [])
 
 unfoldable pub countOf : List ℕ → ℕ → Polarity → Outcome ℕ
 countOf ws len pol = refuseBy (ofRecord ws len) (answer (numSelected pol ws len))

@@ -4,7 +4,7 @@ ghost use Prim.Native.Nat.{_+_, _-_, _*_, _/_, _^_, _≤_, _<_};
 ghost use lib.ListN.{length};
 ghost use Rattle.rank_sel.specs.Outcome.{answered, testBy, tested as testedAs};
 ghost use Rattle.select_in_word.specs.Holds.{Holds};
-ghost use Rattle.bit_record.specs.Record.{Admitted, CountsWords, Finds, bitAt, chosen, complemented, countOf, ofRecordFrom, originTooLarge, sampleAt, selected};
+ghost use Rattle.bit_record.specs.Record.{Admitted, CountsWords, Finds, bitAt, chosen, complemented, countOf, ofLen, ofRecordFrom, originTooLarge, sampleAt, selected};
 use rank_sel::Answer;
 use rank_sel::Refusal;
 use rank_sel::Tested;
@@ -39,9 +39,9 @@ fn is_origin_too_large(origin: u64, len: u64) -> bool
     origin > MAX_LEN - len
 }
 
-// Refusals 1, 14 and 2: the one test of a record, whose bit 0 is sample number `origin`.
-pub fn test_record(words: &[u64], len: u64, origin: u64) -> Tested
-    ensures { λ r. ⌜ testedAs r ≡ testBy (ofRecordFrom (now (words .entry)) len origin) ⌝ }
+// Refusals 1 and 14: the one test of a length and an origin, which a summary has without words too.
+pub fn test_len(len: u64, origin: u64) -> Tested
+    ensures { λ r. ⌜ testedAs r ≡ testBy (ofLen len origin) ⌝ }
 {
     if len > MAX_LEN {
         return Tested::Refused(Refusal::LenTooLarge);
@@ -49,6 +49,17 @@ pub fn test_record(words: &[u64], len: u64, origin: u64) -> Tested
     if is_origin_too_large(origin, len) {
         return Tested::Refused(Refusal::OriginTooLarge);
     }
+    Tested::Passed
+}
+
+// 1, 14 and 2: the one test of a record, whose bit 0 is sample number `origin`.
+pub fn test_record(words: &[u64], len: u64, origin: u64) -> Tested
+    ensures { λ r. ⌜ testedAs r ≡ testBy (ofRecordFrom (now (words .entry)) len origin) ⌝ }
+{
+    let numbered = test_len(len, origin);
+    let Tested::Passed = numbered else {
+        return numbered;
+    };
     if (words.len() as u64) < (len + 63) / 64 {
         return Tested::Refused(Refusal::TooFewWords);
     }

@@ -1,6 +1,6 @@
--- Comparing cells: lists, the stream, an entry's cells, and the loop over all entries.
+-- Comparing cells: the stream, an entry's cells, and the loop over all entries.
 use mathlib.Core.Path.{_≡_, refl, sym, ap, ap₂, _∙_}
-use mathlib.Core.Bool.{Bool, true, false, _&&_, and-true, and-assoc, and-eq-true-iff, false≢true}
+use mathlib.Core.Bool.{Bool, true, false, _&&_, and-true, and-eq-true-iff, false≢true}
 use mathlib.Core.List.{List, [], _∷_, _++_, append-nil}
 use Prim.Native.Nat.{ℕ, zero, suc, _+_, _-_, _*_, _^_, _≤_, _<_}
 use native.Mathlib.Decide.{le-ind}
@@ -11,7 +11,9 @@ use lib.Dec.{eqb}
 use lib.ListN.{length, take, drop, getD, length-append, length-take}
 use lib.Pow.{pow-pos}
 use lib.Seq.{take-suc, getD-take, take-add, take-take, take-append-le, take-length, drop-at, length-take-le}
-use borrow.Author.Tests.{eq-eqb, ne-eqb, eqb-true}
+use borrow.Author.Tests.{eq-eqb, ne-eqb}
+use Rattle.rank_sel.specs.Lists.{sameList}
+use Rattle.rank_sel.proofs.Lists.{same-yes, same-is, same-append}
 use Rattle.spacing.specs.Spacing.{M}
 use Rattle.spacing.specs.declared.Parameters.{Parameters}
 use Rattle.inventory.specs.Index.{entriesOf, stride, inventoryLenOf, startOf, entryOf, spillStart, inventoryTo, spillTo, inventoryOf, spillOf, packed, stream, ownCells, spillCells}
@@ -20,49 +22,14 @@ use Rattle.inventory.specs.declared.entry.Entry.{Entry}
 use Rattle.inventory.proofs.Index.{inventory-more, spill-more, inventory-length, spill-to-length}
 use Rattle.inventory.proofs.Lanes.{turn-more, tab-at}
 use Rattle.inventory.proofs.Marks.{few-heads, heads-length, own-length, spill-length}
-use Rattle.build_inventory.specs.Compare.{sameList, sameIndex}
+use Rattle.build_inventory.specs.Compare.{sameIndex}
 use Rattle.build_inventory.proofs.Parts.{part-take}
 use Rattle.build_inventory.proofs.Turns.{Reached, reached-none, reached-more, last-room, entry-room, spill-room}
-
--- ---- lists
-same-refl : (s : List ℕ) → sameList s s ≡ true
-unfolding sameList
-same-refl [] = refl
-same-refl (a ∷ s) = rw (eq-eqb a a refl) (same-refl s)
-
-pub same-yes : (s t : List ℕ) → s ≡ t → sameList s t ≡ true
-same-yes s t e = rw e (same-refl t)
-
-pub same-is : (s t : List ℕ) → sameList s t ≡ true → s ≡ t
-unfolding sameList
-same-is [] [] e = refl
-same-is [] (b ∷ t) e = absurd (false≢true e)
-same-is (a ∷ s) [] e = absurd (false≢true e)
-same-is (a ∷ s) (b ∷ t) e =
-    let y = and-eq-true-iff (eqb a b) (sameList s t) .0 e in
-    let h = eqb-true a b (y .0) in
-    let i = same-is s t (y .1) in
-    cc
-
-pub same-no : (s t : List ℕ) → (s ≡ t → ⊥) → sameList s t ≡ false
-same-no s t n = go (sameList s t) refl
-  where
-    go : (q : Bool) → sameList s t ≡ q → sameList s t ≡ false
-    go true e = absurd (n (same-is s t e))
-    go false e = e
-
-same-append : (s t s′ t′ : List ℕ) → length s ≡ length t → sameList (s ++ s′) (t ++ t′) ≡ sameList s t && sameList s′ t′
-unfolding sameList
-same-append [] [] s′ t′ h = refl
-same-append [] (b ∷ t) s′ t′ h = absurd (omega arith)
-same-append (a ∷ s) [] s′ t′ h = absurd (omega arith)
-same-append (a ∷ s) (b ∷ t) s′ t′ h =
-    ap (λ (z : Bool). eqb a b && z) (same-append s t s′ t′ (omega arith)) ∙ sym (and-assoc (eqb a b) (sameList s t) (sameList s′ t′))
 
 -- two lists that differ at most in their last cell
 same-last : (i : List ℕ) (a b : ℕ) → sameList (i ++ (a ∷ [])) (i ++ (b ∷ [])) ≡ eqb a b
 unfolding sameList
-same-last i a b = same-append i i (a ∷ []) (b ∷ []) refl ∙ rw (same-refl i) (and-true (eqb a b))
+same-last i a b = same-append i i (a ∷ []) (b ∷ []) refl ∙ rw (same-yes i i refl) (and-true (eqb a b))
 
 and-not : (a b : Bool) → (a ≡ true → b ≡ true → ⊥) → a && b ≡ false
 and-not true true n = absurd (n refl refl)

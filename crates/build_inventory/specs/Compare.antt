@@ -1,23 +1,16 @@
 -- What the functions that compare cells with an entry's, and with the whole index, say of them.
-use mathlib.Core.Bool.{Bool, true, false, _&&_}
-use mathlib.Core.List.{List, [], _∷_}
+use mathlib.Core.Bool.{Bool, true, _&&_}
+use mathlib.Core.List.{List}
 use mathlib.Core.Path.{_≡_}
 use Prim.Native.Nat.{ℕ, _+_, _-_, _*_}
-use lib.Dec.{eqb}
 use lib.ListN.{take}
+use Rattle.rank_sel.specs.Lists.{sameList}
 use Rattle.spacing.specs.declared.Parameters.{Parameters}
 use Rattle.inventory.specs.Index.{stream, ownCells, entriesOf, inventoryLenOf, spillStart, inventoryOf, spillOf}
 use Rattle.inventory.specs.declared.entry.Entry.{Entry}
 use Rattle.build_inventory.specs.Stream.{AtMark}
 use Rattle.build_inventory.specs.declared.entry.Cursor.{Cursor}
 use Rattle.build_inventory.specs.declared.index.Same.{Same}
-
--- two lists are one, as a Bool
-unfoldable pub sameList : List ℕ → List ℕ → Bool
-sameList [] [] = true
-sameList [] (b ∷ t) = false
-sameList (a ∷ s) [] = false
-sameList (a ∷ s) (b ∷ t) = eqb a b && sameList s t
 
 -- the first n cells, with the stream from cursor c on; where they agree, the cursor stands behind them
 pub record Compared (pos : ℕ → ℕ) (x : Entry) (c : Cursor) (n : ℕ) (l : List ℕ) (r : Same) : Type 0 where

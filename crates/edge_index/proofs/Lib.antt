@@ -2,6 +2,8 @@ pub mod Sound
 pub mod Lists
 pub mod Right
 pub mod Promises
+pub mod Determined
 pub mod Refusals
 pub mod Padding
+pub mod Images
 pub mod Table

@@ -4,11 +4,13 @@ use mathlib.Core.Bool.{Bool, true, false, and-eq-true-iff}
 use mathlib.Core.List.{List, _++_}
 use mathlib.Core.Logic.{_↔_}
 use mathlib.Core.Path.{_≡_, refl, sym, ap, _∙_, subst}
-use Prim.Native.Nat.{ℕ, _≤_, _<_}
+use Prim.Native.Nat.{ℕ, _≤_}
 use native.Mathlib.Omega.{arith}
 use lib.ListN.{length, take, drop, length-append, take-append-drop}
-use lib.Seq.{ext-getD, getD-take, length-take-le, take-at}
+use lib.Seq.{getD-take, length-take-le, take-at}
+use Rattle.rank_sel.specs.Lists.{sameList}
 use Rattle.rank_sel.specs.Outcome.{answer, refused}
+use Rattle.rank_sel.proofs.Lists.{same-is, same-yes, front-is}
 use Rattle.rank_sel.proofs.Outcome.{answer-is, then-answer, then-refused}
 use Rattle.bit_record.specs.Record.{SameRecord, bitOf}
 use Rattle.bit_record.specs.declared.Polarity.{Polarity}
@@ -18,9 +20,8 @@ use Rattle.inventory.specs.Index.{entriesOf, inventoryLenOf, spillStart, invent
 use Rattle.inventory.specs.declared.summary.Summary.{Summary}
 use Rattle.inventory.proofs.Placed.{Placed, placed, length-inventory, length-spill}
 use Rattle.build_inventory.specs.Build.{checkOf, sameSummary}
-use Rattle.build_inventory.specs.Compare.{sameIndex, sameList}
+use Rattle.build_inventory.specs.Compare.{sameIndex}
 use Rattle.build_inventory.specs.Positions.{posIn}
-use Rattle.build_inventory.proofs.Comparing.{same-is, same-yes}
 use Rattle.build_inventory.proofs.Outcomes.{Admission, admission, admitted-on, origin-handed, inventory-counted, spill-counted}
 use Rattle.build_inventory.proofs.Summaries.{summary-is, summary-same}
 use Rattle.edge_index.specs.Promises.{SameCells, AsThen, Stands, buildAnswers, inventoryHolds, spillHolds, Promises}
@@ -36,10 +37,7 @@ begins n l front e = ap (λ (z : List ℕ). z ++ drop n l) (sym e) ∙ take-appe
 -- cells that are the same within a count begin alike
 cells-take : (n : ℕ) (a b : List ℕ) → SameCells n a b → take n b ≡ take n a
 cells-take n a b s =
-    let la = length-take-le n a (s .held) in
-    let lb = length-take-le n b (s .held′) in
-    ext-getD 0 (take n b) (take n a) (lb ∙ sym la)
-    (λ i h. let l : i < n = omega arith in getD-take n b i 0 l ∙ sym (s .cells i l) ∙ sym (getD-take n a i 0 l))
+    front-is n b (take n a) (s .held′) (length-take-le n a (s .held)) (λ i h. sym (s .cells i h) ∙ sym (getD-take n a i 0 h))
 
 module _ (ws : List ℕ) (len origin : ℕ) (pol : Polarity) (choice : Choice) where
   -- the index of a summary
@@ -79,7 +77,7 @@ module _ (ws : List ℕ) (len origin : ℕ) (pol : Polarity) (choice : Choice) w
         (omega (arith, length-append (inventory t) a, length-inventory (posIn ws p) p)) (omega (arith, length-append (spilled t) b, s)))
 
     -- any cells that begin with the index are said yes to
-    held-yes : (inv sp : List ℕ) → t .«inventory_len» ≤ length inv → t .«spill_len» ≤ length sp
+    pub held-yes : (inv sp : List ℕ) → t .«inventory_len» ≤ length inv → t .«spill_len» ≤ length sp
         → take (t .«inventory_len») inv ≡ inventory t → take (t .«spill_len») sp ≡ spilled t → Yes t inv sp
     held-yes inv sp a b i s =
         record { builds = admitted-on ws len origin pol choice cells spill t m (length inv) (length sp) a b; inventory-is = i; spill-is = s }
@@ -120,7 +118,7 @@ module _ (ws : List ℕ) (len origin : ℕ) (pol : Polarity) (choice : Choice) w
       (cells-take _ inv inv′ i ∙ y .inventory-is) (cells-take _ sp sp′ s ∙ y .spill-is)
 
   -- ---- what follows from one
-  yes-checked : (t : Summary) (inv sp : List ℕ) → Yes t inv sp → checkOf ws len origin pol choice t inv sp ≡ answer true
+  pub yes-checked : (t : Summary) (inv sp : List ℕ) → Yes t inv sp → checkOf ws len origin pol choice t inv sp ≡ answer true
   unfolding checkOf sameIndex
   yes-checked t inv sp y =
       let m = admits t inv sp (y .builds) in

@@ -30,7 +30,8 @@ use Rattle.read_inventory.specs.Tests.{rankTooLarge, ranksFall}
 use Rattle.read_inventory.proofs.PartSize.{store-some, store-in, store-length}
 use Rattle.select_list.specs.List.{Walk, start as begin, after, walk, fallsFrom, anyTooLarge, ofList, listed, walkOf, listOf}
 use Rattle.select_list.specs.Step.{Reached, Start, startOf, readFrom, atMark, stepFrom, stepOf}
-use Rattle.edge_index.specs.Refusals.{firstOf, InOrder, recordOrder, recordFromOrder, choiceOrder, indexOrder, planIn, summaryIn, toSix, toSeven, Never, Only10, MakersRefuse, ReadersRefuse, InWordRefuses}
+use Rattle.index_image.specs.Image.{imageOf, ofWriting, writeOf, ofReading, readOf}
+use Rattle.edge_index.specs.Refusals.{firstOf, InOrder, recordOrder, recordFromOrder, choiceOrder, indexOrder, planIn, summaryIn, toSix, toSeven, Never, Only10, MakersRefuse, ReadersRefuse, ImagesRefuse, InWordRefuses}
 
 -- ---- chains of tests
 some-none : {B : Type 0} (n : ℕ) → _≡_ {A = Option ℕ} (some n) none → B
@@ -267,6 +268,16 @@ readers-refuse ws t inv sp = record {
   list-10 = ten-list ws t inv sp;
   list-untouched = λ ranks places n e. rw e;
   list-empty = none-listed ws t inv sp;
+}
+
+-- ---- images
+pub images-refuse : ImagesRefuse
+unfolding writeOf readOf
+images-refuse = record {
+  write = λ t inv sp lent. in-tests (ofWriting t inv sp lent) (answer (imageOf t inv sp));
+  write-untouched = λ t inv sp bytes n e. rw e;
+  read = λ bytes inv sp. in-tests (ofReading bytes inv sp) _;
+  read-untouched = λ bytes inv sp n e. (rw e, rw e);
 }
 
 pub in-word-refuses : InWordRefuses

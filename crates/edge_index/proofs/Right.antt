@@ -146,7 +146,7 @@ module _ (ws : List ℕ) (len origin : ℕ) (pol : Polarity) (choice : Choice) (
   hint-right r h = tests-pass (ofRank (N p) r) (hintSample t inv sp r) ∙ rw (lt-leb (N p) r h, s .met r h .mark, s .bitZero)
 
   -- ---- the cells where a mark is recorded
-  shape-right : (k : ℕ) → k < entriesOf p → shapeAt t inv k ≡ entryOf pos p k .shape
+  pub shape-right : (k : ℕ) → k < entriesOf p → shapeAt t inv k ≡ entryOf pos p k .shape
   unfolding shapeAt
   shape-right k h = rw (s .kinds k h, s .starts k h, ← start-here pos p k (entry-below p k h)) (sym (shape-by pos p k))
 
@@ -154,7 +154,7 @@ module _ (ws : List ℕ) (len origin : ℕ) (pol : Polarity) (choice : Choice) (
   unfolding spilledAt
   spilled-right k h = rw (s .kinds k h, s .quanta k h) (sym (spilled-by pos p k))
 
-  second-right : (k : ℕ) → k < entriesOf p → entryOf pos p k .shape .heads ≡ 1 → cellAt t inv k 1 ≡ sum (spilledOf pos p) k
+  pub second-right : (k : ℕ) → k < entriesOf p → entryOf pos p k .shape .heads ≡ 1 → cellAt t inv k 1 ≡ sum (spilledOf pos p) k
   second-right k h d = s .second k h (λ u. omega (arith, d, kind-headless pos p k u))
 
   place-in : (k i : ℕ) → k < entriesOf p → i < marksOf pos p k → Within (placeAt t inv k i) (partBy t inv k (placeAt t inv k i))

@@ -21,7 +21,7 @@ use Rattle.spacing.specs.Spacing.{N, L, planOf}
 use Rattle.spacing.specs.declared.Choice.{Choice}
 use Rattle.spacing.specs.declared.Parameters.{Parameters}
 use Rattle.spacing.proofs.Facts.{PlanFacts, plan-facts, plan-num}
-use Rattle.inventory.specs.Index.{entriesOf, stride, inventoryLenOf, ranksOf, mark, bound, startOf, spillStart, summaryOf}
+use Rattle.inventory.specs.Index.{entriesOf, inventoryLenOf, ranksOf, mark, bound, startOf, spillStart, summaryOf}
 use Rattle.inventory.specs.declared.summary.Summary.{Summary}
 use Rattle.inventory.proofs.Marks.{Rising, rising, start-here}
 use Rattle.inventory.proofs.Placed.{Placed}
@@ -92,6 +92,11 @@ module _ (ws : List ℕ) (len : ℕ) (pol : Polarity) (choice : Choice) (p : Par
           (arith, add-mul (s / 2 ^ qOf pos p e) 1 (2 ^ qOf pos p e), div-add-mod' s (2 ^ qOf pos p e), mod-lt s (pow-pos (qOf pos p e)))
       go false = omega (arith, add-mul e 1 (2 ^ L p), rank-in p e s l)
 
+  -- past the last entry stands what the closing cell says
+  pub start-closing : startOf pos p (entriesOf p) ≡ max 1 len
+  unfolding startOf bound
+  start-closing = rw (le-ltb (entriesOf p * 2 ^ L p) (N p) covered, facts .length)
+
   module _ (origin : ℕ) (inv sp : List ℕ) (w : Placed pos p inv sp) where
     abbrev t : Summary
     t = summaryOf pos p origin
@@ -142,10 +147,6 @@ module _ (ws : List ℕ) (len : ℕ) (pol : Polarity) (choice : Choice) (p : Par
         subst (λ (n : ℕ). Met f pos p t inv sp n (r / 2 ^ L p) (r % 2 ^ L p)) (div-add-mod' r (2 ^ L p))
         (met-at (r / 2 ^ L p) (r % 2 ^ L p) (rank-entry p r h) (rank-sub p r h))
 
-    closing : getD inv (entriesOf p * stride p) 0 ≡ max 1 len
-    unfolding startOf bound
-    closing = w .closing ∙ rw (le-ltb (entriesOf p * 2 ^ L p) (N p) covered, facts .length)
-
     -- an entry's start as read, and the selected bits from it on
     starts : (e : ℕ) → e < entriesOf p → startAt t inv e ≡ pos (e * 2 ^ L p)
     starts e h = start-read pos p g (facts .of .spaced) origin inv sp w e h ∙ start-here pos p e (entry-below p e h)
@@ -192,7 +193,7 @@ module _ (ws : List ℕ) (len : ℕ) (pol : Polarity) (choice : Choice) (p : Par
       quanta = quantum-read pos p g (facts .of .spaced) origin inv sp w;
       whole = whole;
       last = last;
-      closing = ap (λ (n : ℕ). getD inv n 0) (omega arith) ∙ closing;
+      closing = ap (λ (n : ℕ). getD inv n 0) (omega arith) ∙ w .closing ∙ start-closing;
       none16 = kind-spills pos p;
       second = λ e h k. second-read pos p g (facts .of .spaced) origin inv sp w e h (kind-heads pos p e k);
       spillLen = refl;

@@ -3,4 +3,5 @@ pub mod Right
 pub mod Promises
 pub mod Refusals
 pub mod Padding
+pub mod Images
 pub mod Table

@@ -1,5 +1,5 @@
 -- Demand 1: each refusal is given exactly where its condition holds and none before it in the order does. Document 01,
--- "When a call is turned down", and document 02, W-201 and W-202. The conditions are those that the definitions name.
+-- "When a call is turned down", and document 02, W-201 to W-203. The conditions are those that the definitions name.
 use mathlib.Core.Bool.{cond, _&&_}
 use mathlib.Core.List.{List, [], _∷_, _++_}
 use mathlib.Core.Logic.{_↔_}
@@ -17,15 +17,16 @@ use Rattle.spacing.specs.Spacing.{N, rule, planFor, onesPerInventoryTooLarge, w
 use Rattle.spacing.specs.declared.Choice.{Choice}
 use Rattle.spacing.specs.declared.Parameters.{Parameters}
 use Rattle.inventory.specs.Index.{inventoryLenOf, summaryOf}
-use Rattle.inventory.specs.Lawful.{unlawful}
+use Rattle.inventory.specs.Lawful.{unlawful, inventoryTooShort, spillTooShort}
 use Rattle.inventory.specs.declared.summary.Summary.{Summary}
 use Rattle.build_inventory.specs.Build.{sizeOf, buildOf, sameSummary, checkOf}
 use Rattle.build_inventory.specs.Compare.{sameIndex}
 use Rattle.build_inventory.specs.Positions.{posIn}
 use Rattle.read_inventory.specs.Jump.{sampleOf, selectOf, hintSample, hintOf, dwellAt, dwellOf, subinventoryOf, PartIn, cellsOf, cellCount}
 use Rattle.read_inventory.specs.Read.{Hint}
-use Rattle.read_inventory.specs.Tests.{inventoryTooShort, spillTooShort, rankTooLarge, ranksFall}
+use Rattle.read_inventory.specs.Tests.{rankTooLarge, ranksFall}
 use Rattle.select_list.specs.List.{falls, tooFewPlaces, anyTooLarge, walkOf, listOf, placesAfter}
+use Rattle.index_image.specs.Image.{imageOf, placeTooShort, writeOf, bytesAfter, inventoryIn, spillIn, imageUnlawful, readOf, cellsAfter, summaryIn as summaryOfBytes}
 
 -- the number of the first that holds
 abbrev pub firstOf : Conditions → Option ℕ
@@ -60,10 +61,13 @@ choiceOrder ws len pol choice =
     ∷ []
 
 -- ---- of a summary and cells: 1, 14, 2, 9, 6, 7
+abbrev pub cellsOrder : Summary → List ℕ → List ℕ → Conditions
+cellsOrder t inv sp = (inventoryTooShort t inv, 6) ∷ (spillTooShort t sp, 7) ∷ []
+
 abbrev pub indexOrder : List ℕ → Summary → List ℕ → List ℕ → Conditions
 indexOrder ws t inv sp =
     recordFromOrder ws (t .plan .len) (t .origin)
-    ++ ((unlawful t, 9) ∷ (inventoryTooShort t inv, 6) ∷ (spillTooShort t sp, 7) ∷ [])
+    ++ ((unlawful t, 9) ∷ cellsOrder t inv sp)
 
 -- the plan of a record and a choice, where nothing turns them down
 abbrev pub planIn : List ℕ → ℕ → Polarity → Choice → Parameters
@@ -120,6 +124,19 @@ module _ (ws : List ℕ) (t : Summary) (inv sp : List ℕ) where
         → placesAfter (listOf ws t inv sp ranks (length places)) places ≡ places
     pub list-empty : (lent : ℕ) → firstOf (indexOrder ws t inv sp) ≡ none
         → listOf ws t inv sp [] lent ≡ answer (record { samples = []; total = 0 })
+
+-- ---- of images: 1, 14, 9, 6, 7, 16 in writing, 15, 6, 7 in reading; a refusal leaves bytes and cells as they were
+pub record ImagesRefuse : Type 0 where
+  pub write : (t : Summary) (inv sp : List ℕ) (lent : ℕ) → InOrder (writeOf t inv sp lent)
+      ((lenTooLarge (t .plan .len), 1) ∷ (originTooLarge (t .origin) (t .plan .len), 14) ∷ (unlawful t, 9) ∷ (cellsOrder t inv sp
+      ++ ((placeTooShort t inv sp lent, 16) ∷ [])))
+      (answer (imageOf t inv sp))
+  pub write-untouched : (t : Summary) (inv sp bytes : List ℕ) (n : ℕ) → writeOf t inv sp (length bytes) ≡ refused n
+      → bytesAfter (writeOf t inv sp (length bytes)) bytes ≡ bytes
+  pub read : (bytes inv sp : List ℕ) → InOrder (readOf bytes inv sp)
+      ((imageUnlawful bytes, 15) ∷ cellsOrder (summaryOfBytes bytes) inv sp) (answer (summaryOfBytes bytes))
+  pub read-untouched : (bytes inv sp : List ℕ) (n : ℕ) → readOf bytes inv sp ≡ refused n
+      → (cellsAfter (readOf bytes inv sp) (inventoryIn bytes) inv ≡ inv) × (cellsAfter (readOf bytes inv sp) (spillIn bytes) sp ≡ sp)
 
 -- in-word select: 8 exactly where the rank is not below the word's ones
 abbrev pub InWordRefuses : Type 0

@@ -1,12 +1,12 @@
 -- Records to try: what the definitions give, beside what document 01 and the source say. Its starred lines are marked *.
--- Then lists, beside document 02's W-201, and origins, beside W-202.
+-- Then lists, beside document 02's W-201, origins, beside W-202, and images, beside W-203.
 use mathlib.Core.Bool.{true, false}
 use mathlib.Core.List.{List, [], _∷_, _++_, map}
 use mathlib.Core.Path.{_≡_}
 use Prim.Native.Nat.{ℕ, _+_, _-_, _^_}
 use lib.Ieee.{nan, inf, fin}
 use lib.IntN.{pos, negsuc}
-use lib.ListN.{replicate}
+use lib.ListN.{length, take, drop, set, replicate}
 use Rattle.rank_sel.specs.Outcome.{Outcome, answer, refused}
 use Rattle.select_in_word.specs.Select.{selectInWord}
 use Rattle.bit_record.specs.Record.{countOf}
@@ -23,6 +23,9 @@ use Rattle.build_inventory.specs.Build.{checkOf}
 use Rattle.read_inventory.specs.Jump.{selectOf, hintOf, dwellOf, ofInventory, empty, subinventoryOf}
 use Rattle.select_list.specs.List.{Listed, listOf, sumOver}
 use Rattle.select_list.specs.Step.{singleWords}
+use Rattle.index_image.specs.Bytes.{bytesOf}
+use Rattle.index_image.specs.Image.{writeOf, bytesAfter, readOf}
+use Rattle.edge_index.specs.Images.{inventoryLeft}
 use Rattle.edge_index.specs.Promises.{buildAnswers, inventoryHolds}
 
 -- a value as defined, and as stated
@@ -211,4 +214,69 @@ origins =
     ∷ line (dwellOf A (onesFrom (2 ^ 62 - 10)) cellsA [] 0 3) (refused 14)
     ∷ line (subinventoryOf A (onesFrom (2 ^ 62 - 10)) cellsA [] 3) empty
     ∷ line (listOf A (onesFrom (2 ^ 62 - 10)) cellsA [] (0 ∷ []) 1) (refused 14)
+    ∷ []
+
+-- ---- images
+-- the eleven fields of A's index, origin 100, and its cells
+abbrev pub fieldsA : List ℕ
+fieldsA = 0 ∷ 10 ∷ 4 ∷ 100 ∷ 1 ∷ 0 ∷ 0 ∷ 5 ∷ 88 ∷ 0 ∷ 128 ∷ []
+
+abbrev pub imageA : List ℕ
+imageA = bytesOf (fieldsA ++ cellsA)
+
+-- the same with another number for field i
+abbrev pub bent : ℕ → ℕ → List ℕ
+bent i n = bytesOf (set fieldsA i n ++ cellsA)
+
+abbrev pub full : List ℕ
+full = replicate 6 (2 ^ 64 - 1)
+
+-- what reading answers and leaves in six lent cells, all ones before, and no spill
+abbrev pub opens : List ℕ → Outcome Summary × List ℕ
+opens bytes = (readOf bytes full [], inventoryLeft bytes full [])
+
+-- N about 2^61, L 0, M 7: the inventory count is 33 modulo 2^64 only
+abbrev pub wrapped : Summary
+wrapped = summary (parameters Ones (2 ^ 62 - 1) 2287968257204285472 0 7 0) 33 0
+
+abbrev pub images : List Line
+images =
+    -- A, origin 100: 128 bytes, the lowest of a field first
+    line (writeOf (onesFrom 100) cellsA [] 128) (answer imageA)
+    ∷ line (length imageA) 128
+    ∷ line (take 8 (drop 24 imageA)) (100 ∷ 0 ∷ 0 ∷ 0 ∷ 0 ∷ 0 ∷ 0 ∷ 0 ∷ [])
+    ∷ line (take 8 (drop 96 imageA)) (0 ∷ 0 ∷ 3 ∷ 0 ∷ 0 ∷ 0 ∷ 0 ∷ 0 ∷ [])
+    -- what lies past stays
+    ∷ line (bytesAfter (writeOf (onesFrom 100) cellsA [] 130) (replicate 130 255)) (imageA ++ (255 ∷ 255 ∷ []))
+    -- 16, and the order before it: 1, 14, 9, 6, 7
+    ∷ line (writeOf (onesFrom 100) cellsA [] 127) (refused 16)
+    ∷ line (writeOf (summary (parameters Ones (2 ^ 62) 11 1 0 0) 5 0) [] [] 0) (refused 1)
+    ∷ line (writeOf (summaryFrom (2 ^ 62 - 10) (parameters Ones 10 11 1 0 0) 5 0) [] [] 0) (refused 14)
+    ∷ line (writeOf (summary (parameters Ones 10 11 1 0 0) 5 0) [] [] 0) (refused 9)
+    ∷ line (writeOf wrapped [] [] 0) (refused 9)
+    ∷ line (writeOf (onesFrom 100) [] [] 0) (refused 6)
+    ∷ line (writeOf (summary (parameters Ones 10 4 1 0 0) 5 1) cellsA [] 0) (refused 7)
+    -- read back; cells past the count stay
+    ∷ line (opens imageA) (answer (onesFrom 100), cellsA ++ ((2 ^ 64 - 1) ∷ []))
+    -- reading is no check: any cells are taken
+    ∷ line (opens (bytesOf (fieldsA ++ replicate 5 7))) (answer (onesFrom 100), replicate 5 7 ++ ((2 ^ 64 - 1) ∷ []))
+    -- 15: no header, a byte less or more, a third polarity, L over 32 bits, an offset or a count not by the rule
+    ∷ line (opens []) (refused 15, full)
+    ∷ line (opens (take 87 imageA)) (refused 15, full)
+    ∷ line (opens (take 127 imageA)) (refused 15, full)
+    ∷ line (opens (imageA ++ (0 ∷ []))) (refused 15, full)
+    ∷ line (opens (bent 0 2)) (refused 15, full)
+    ∷ line (opens (bent 4 (2 ^ 32 + 1))) (refused 15, full)
+    ∷ line (opens (bent 8 96)) (refused 15, full)
+    ∷ line (opens (bent 10 136)) (refused 15, full)
+    ∷ line (opens (bent 9 1)) (refused 15, full)
+    -- by 1, 14 and 9
+    ∷ line (opens (bent 1 (2 ^ 62))) (refused 15, full)
+    ∷ line (opens (bent 3 (2 ^ 62 - 10))) (refused 15, full)
+    ∷ line (opens (bent 2 11)) (refused 15, full)
+    -- and an inventory count that is right modulo 2^64 only
+    ∷ line (opens (bytesOf ((0 ∷ (2 ^ 62 - 1) ∷ 2287968257204285472 ∷ 0 ∷ 0 ∷ 7 ∷ 0 ∷ 33 ∷ 88 ∷ 0 ∷ 352 ∷ []) ++ replicate 33 0))) (refused 15, full)
+    -- before 6, and 6 itself
+    ∷ line (readOf (take 127 imageA) [] []) (refused 15)
+    ∷ line (readOf imageA (replicate 4 0) []) (refused 6)
     ∷ []

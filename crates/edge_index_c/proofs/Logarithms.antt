@@ -18,6 +18,7 @@ use Rattle.spacing.specs.declared.Choice.{Choice}
 use Rattle.spacing.specs.declared.Choice.the-variants.{Default, Span, Power, Overhead, Fixed}
 use Rattle.spacing.specs.declared.Parameters.{Parameters}
 use Rattle.inventory.specs.Lawful.{unlawful}
+use Rattle.inventory.specs.Numbers.{cut, summaryBy, summaryAt}
 use Rattle.inventory.specs.declared.summary.Summary.{Summary}
 use Rattle.build_inventory.specs.Build.{fitted, sizeOf, buildFrom, buildOf, samePlan, sameSummary, checkOf}
 use Rattle.build_inventory.specs.Compare.{sameIndex}
@@ -26,7 +27,8 @@ use Rattle.build_inventory.proofs.Outcomes.{admission}
 use Rattle.read_inventory.specs.Jump.{sampleOf, selectOf, hintSample, hintOf, dwellAt, dwellOf, storeOf, subinventoryOf}
 use Rattle.read_inventory.specs.Tests.{ofIndex, ofRank, ofRanks}
 use Rattle.select_list.specs.List.{ofList, walkOf, listOf}
-use Rattle.edge_index_c.specs.Codes.{cut, choiceBy, choiceAt, summaryBy, summaryAt}
+use Rattle.index_image.specs.Image.{writeOf}
+use Rattle.edge_index_c.specs.Codes.{choiceBy, choiceAt}
 use Rattle.edge_index_c.specs.Logarithms.{SameChoice, SameAnswers}
 use Rattle.edge_index_c.proofs.Returns.{ap2}
 
@@ -162,6 +164,11 @@ module _ {t u : Summary} where
         unlawful-refused ws u inv sp (ofRank (N (u .plan)) r) (hintSample u inv sp r) (over-unlawful u p),
       )
 
+  write-alike : Alike t u → (inv sp : List ℕ) (lent : ℕ) → writeOf t inv sp lent ≡ writeOf u inv sp lent
+  unfolding writeOf
+  write-alike (equal e) inv sp lent = ap (λ (z : Summary). writeOf z inv sp lent) e
+  write-alike (both e f o p) inv sp lent = rw (over-unlawful t o, over-unlawful u p, e, f)
+
   verdict-alike : Alike t u → (b : Summary → Bool) (o : Outcome Summary)
       → ((v : Summary) → o ≡ answer v → (L (v .plan) ≤ 63) × (M (v .plan) ≤ maxLog2Words) × (S (v .plan) ≤ 63))
       → andThen o (λ v. answer (sameSummary t v && b v)) ≡ andThen o (λ v. answer (sameSummary u v && b v))
@@ -184,6 +191,7 @@ module _ {t u : Summary} where
     store = store-alike w;
     dwell = λ ws inv sp a b. tests-alike w ws inv sp (λ z. ofRanks (N (z .plan)) a b) (λ z. dwellAt ws z inv sp a b);
     list = λ ws inv sp ranks lent. tests-alike w ws inv sp (λ z. ofList (N (z .plan)) ranks lent) (λ z. walkOf ws z inv sp ranks);
+    write = write-alike w;
   }
 
 pub summary-cut : (s : List ℕ) → SameAnswers (summaryAt s) (summaryBy same s)

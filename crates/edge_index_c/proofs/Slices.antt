@@ -9,10 +9,11 @@ use lib.Dec.{ltb}
 use lib.ListN.{getD}
 use Rattle.rank_sel.specs.Outcome.{answer}
 use Rattle.rank_sel.proofs.Outcome.{answer-is, then-answer, then-then, not-refused, refused-on}
+use Rattle.inventory.specs.Numbers.{summaryAt}
 use Rattle.read_inventory.specs.Jump.{Part, ofInventory, ofSpill, empty, hintOf, storeOf, subinventoryOf, PartIn, cellCount}
 use Rattle.read_inventory.proofs.PartSize.{store-some, store-in}
 use Rattle.edge_index_c.specs.Calls.{partNumbers, hintC, subinventoryC, Named, StoreNames, StoreRefuses}
-use Rattle.edge_index_c.specs.Codes.{badCode, summaryAt}
+use Rattle.edge_index_c.specs.Codes.{badCode}
 
 part-named : (inv sp : List ℕ) (p : Part) → 0 < cellCount p → PartIn inv sp p → Named inv sp (partNumbers p)
 part-named inv sp (ofInventory c n) l i = record { some = l; lent = inl (refl, i) }

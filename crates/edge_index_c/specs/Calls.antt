@@ -10,12 +10,14 @@ use lib.ListN.{length, getD}
 use Rattle.rank_sel.specs.Outcome.{Outcome, answer, refused, refuseIf, andThen}
 use Rattle.bit_record.specs.Record.{countOf}
 use Rattle.spacing.specs.Spacing.{planOf}
+use Rattle.inventory.specs.Numbers.{polarityAt, summaryAt, numbersOf}
 use Rattle.inventory.specs.declared.summary.Summary.{Summary}
 use Rattle.build_inventory.specs.Build.{Sizes, sizeOf, buildOf, checkOf, inventoryAfter, spillAfter}
 use Rattle.read_inventory.specs.Read.{Hint}
 use Rattle.read_inventory.specs.Jump.{Part, ofInventory, ofSpill, empty, selectOf, hintOf, dwellOf, storeOf}
 use Rattle.select_list.specs.List.{Listed, listOf, totalOf, placesAfter}
-use Rattle.edge_index_c.specs.Codes.{badCode, known, polarityAt, choiceAt, summaryAt, numbersOf, uncounted}
+use Rattle.index_image.specs.Image.{writeOf, lengthOf, bytesAfter, readOf, cellsAfter, inventoryIn, spillIn}
+use Rattle.edge_index_c.specs.Codes.{badCode, known, choiceAt, uncounted}
 
 -- ---- what a call whose outcome is o leaves
 -- 0 for an answer, else the refusal's number
@@ -100,6 +102,23 @@ pub record ListedC (o : Outcome Listed) (l₀ l : List ℕ) (r out₀ out : ℕ)
   pub returned : Returned (totalOf o) r out₀ out
   pub places : l ≡ placesAfter o l₀
 
+-- ---- images
+-- where so many bytes are lent
+unfoldable pub writeC : List ℕ → List ℕ → List ℕ → ℕ → Outcome (List ℕ)
+writeC s inv sp lent = ifRead s (writeOf (summaryAt s) inv sp lent)
+
+-- a writing whose outcome is o returned r and left these bytes and this length
+pub record WroteC (o : Outcome (List ℕ)) (bytes₀ bytes : List ℕ) (r out₀ out : ℕ) : Type 0 where
+  pub returned : Returned (lengthOf o) r out₀ out
+  pub image : bytes ≡ bytesAfter o bytes₀
+
+-- a reading of these bytes returned r and left these cells and numbers; a polarity over 1 is 15, not a bad code
+pub record ReadC (bytes inv₀ inv sp₀ sp out₀ out : List ℕ) (r : ℕ) : Type 0 where
+  pub returned : Returned (andThen (readOf bytes inv₀ sp₀) (λ t. answer (numbersOf t))) r out₀ out
+  pub inventory : inv ≡ cellsAfter (readOf bytes inv₀ sp₀) (inventoryIn bytes) inv₀
+  pub spill : sp ≡ cellsAfter (readOf bytes inv₀ sp₀) (spillIn bytes) sp₀
+
+-- ---- store
 -- a part as numbers: its slice, 1 the inventory, 2 the spill; its first cell; how many
 pub record Cells : Type 0 where
   pub slice : ℕ

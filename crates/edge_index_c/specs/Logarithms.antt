@@ -10,6 +10,7 @@ use Rattle.inventory.specs.declared.summary.Summary.{Summary}
 use Rattle.build_inventory.specs.Build.{sizeOf, buildOf, checkOf}
 use Rattle.read_inventory.specs.Jump.{selectOf, hintOf, dwellOf, subinventoryOf}
 use Rattle.select_list.specs.List.{listOf}
+use Rattle.index_image.specs.Image.{writeOf}
 
 pub record SameChoice (c d : Choice) : Type 0 where
   pub plan : (ws : List ℕ) (len : ℕ) (pol : Polarity) → planOf ws len pol c ≡ planOf ws len pol d
@@ -24,3 +25,4 @@ pub record SameAnswers (t u : Summary) : Type 0 where
   pub store : (ws inv sp : List ℕ) (r : ℕ) → subinventoryOf ws t inv sp r ≡ subinventoryOf ws u inv sp r
   pub dwell : (ws inv sp : List ℕ) (a b : ℕ) → dwellOf ws t inv sp a b ≡ dwellOf ws u inv sp a b
   pub list : (ws inv sp ranks : List ℕ) (lent : ℕ) → listOf ws t inv sp ranks lent ≡ listOf ws u inv sp ranks lent
+  pub write : (inv sp : List ℕ) (lent : ℕ) → writeOf t inv sp lent ≡ writeOf u inv sp lent

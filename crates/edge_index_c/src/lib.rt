@@ -5,8 +5,8 @@ ghost use lib.ListN.{length};
 ghost use Rattle.rank_sel.specs.Outcome.{answered, numberOf};
 ghost use Rattle.select_in_word.specs.Select.{selectInWord};
 ghost use Rattle.build_inventory.specs.Build.{checked};
-ghost use Rattle.edge_index_c.specs.Calls.{BuiltC, ListedC, Returned, buildC, cellsAs, checkC, countC, dwellC, hintAs, hintC, listC, planC, selectC, sizeC, sizesAs, subinventoryC, verdictOf};
-ghost use Rattle.edge_index_c.specs.Codes.{choiceAt, cut as cutTo32, known, numbersOf, polarityAt, polarityCode, summaryAt};
+ghost use Rattle.edge_index_c.specs.Calls.{BuiltC, ListedC, ReadC, Returned, WroteC, buildC, cellsAs, checkC, countC, dwellC, hintAs, hintC, listC, planC, selectC, sizeC, sizesAs, subinventoryC, verdictOf, writeC};
+ghost use Rattle.edge_index_c.specs.Codes.{choiceAt, known};
 use edge_index::Answer;
 use edge_index::Built;
 use edge_index::CellPart;
@@ -14,18 +14,21 @@ use edge_index::Checked;
 use edge_index::Choice;
 use edge_index::Hinted;
 use edge_index::InWord;
+use edge_index::Opened;
 use edge_index::Parameters;
 use edge_index::Planned;
 use edge_index::Polarity;
 use edge_index::Refusal;
 use edge_index::Sized;
 use edge_index::Summary;
+use inventory::SUMMARY_NUMBERS;
+use inventory::cut;
+use inventory::numbers_of;
+use inventory::polarity_at;
+use inventory::summary_at;
 
 // A polarity or a kind that is none. No refusal has this number.
 const BAD_CODE: u32 = 255;
-
-// The numbers of a summary.
-const SUMMARY_NUMBERS: usize = 9;
 
 fn status(refusal: Refusal) -> u32
     ensures { λ r. ⌜ r ≡ numberOf refusal ⌝ }
@@ -37,35 +40,6 @@ pub fn is_known(polarity: u32, kind: u32) -> bool
     ensures { λ r. ⌜ r ≡ known polarity kind ⌝ }
 {
     polarity <= 1 && kind <= 4
-}
-
-pub fn polarity_at(code: u64) -> Polarity
-    ensures { λ r. ⌜ r ≡ polarityAt code ⌝ }
-{
-    if code == 0 {
-        return Polarity::Ones;
-    }
-    Polarity::Zeros
-}
-
-fn polarity_code(polarity: Polarity) -> u64
-    ensures { λ r. ⌜ r ≡ polarityCode polarity ⌝ }
-{
-    match polarity {
-        Polarity::Ones => 0,
-        Polarity::Zeros => 1,
-    }
-}
-
-// The library's logarithms are u32. A larger number is refusal 9 of a summary, a no of check, and 3 of a choice; so
-// is the largest u32.
-pub fn cut(n: u64) -> u32
-    ensures { λ r. ⌜ r ≡ cutTo32 n ⌝ }
-{
-    if n > 0xffff_ffff {
-        return 0xffff_ffff;
-    }
-    n as u32
 }
 
 pub fn choice_at(kind: u32, value: u64, percentage: f64, log2: u32) -> Choice
@@ -84,43 +58,6 @@ pub fn choice_at(kind: u32, value: u64, percentage: f64, log2: u32) -> Choice
         return Choice::Overhead(percentage, log2);
     }
     Choice::Fixed(cut(value), log2)
-}
-
-fn summary_at(s: &[u64; SUMMARY_NUMBERS]) -> Summary
-    ensures { λ r. ⌜ r ≡ summaryAt (now (s .entry)) ⌝ }
-{
-    let plan = Parameters {
-        polarity: polarity_at(s[0]),
-        len: s[1],
-        num: s[2],
-        log2_ones_per_inventory: cut(s[4]),
-        log2_words_per_subinventory: cut(s[5]),
-        log2_ones_per_sub16: cut(s[6]),
-    };
-    Summary {
-        plan,
-        origin: s[3],
-        inventory_len: s[7],
-        spill_len: s[8],
-    }
-}
-
-fn numbers_of(summary: Summary) -> [u64; SUMMARY_NUMBERS]
-    ensures { λ r. ⌜ r ≡ numbersOf summary ⌝ }
-{
-    let plan = summary.plan;
-    let polarity = plan.polarity;
-    [
-        polarity_code(polarity),
-        plan.len,
-        plan.num,
-        summary.origin,
-        plan.log2_ones_per_inventory as u64,
-        plan.log2_words_per_subinventory as u64,
-        plan.log2_ones_per_sub16 as u64,
-        summary.inventory_len,
-        summary.spill_len,
-    ]
 }
 
 // Every answer of one number goes out here.
@@ -409,6 +346,42 @@ pub extern "C" fn edge_index_select_list(
     }
     let told = edge_index::select_list(words, summary_at(summary), inventory, spill, ranks, places);
     give(told, words_read)
+}
+
+#[no_mangle]
+pub extern "C" fn edge_index_write_image(
+    summary: &[u64; SUMMARY_NUMBERS],
+    inventory: &[u64],
+    spill: &[u64],
+    bytes: &mut [u8],
+    written: &mut u64,
+) -> u32
+    ensures { λ r. ⌜ WroteC (writeC (now (summary .entry)) (now (inventory .entry)) (now (spill .entry)) (length (now (bytes .entry)))) (now (bytes .entry)) (now (bytes .exit)) r (now (written .entry)) (now (written .exit)) ⌝ }
+{
+    if summary[0] > 1 {
+        return BAD_CODE;
+    }
+    let told = edge_index::write_image(summary_at(summary), inventory, spill, bytes);
+    give(told, written)
+}
+
+// A code that is no polarity is 15 here, as any header against the rules.
+#[no_mangle]
+pub extern "C" fn edge_index_read_image(
+    bytes: &[u8],
+    inventory: &mut [u64],
+    spill: &mut [u64],
+    summary: &mut [u64; SUMMARY_NUMBERS],
+) -> u32
+    ensures { λ r. ⌜ ReadC (now (bytes .entry)) (now (inventory .entry)) (now (inventory .exit)) (now (spill .entry)) (now (spill .exit)) (now (summary .entry)) (now (summary .exit)) r ⌝ }
+{
+    match edge_index::read_image(bytes, inventory, spill) {
+        Opened::Summary(opened) => {
+            *summary = numbers_of(opened);
+            0
+        }
+        Opened::Refused(refusal) => status(refusal),
+    }
 }
 
 #[no_mangle]

@@ -19,19 +19,39 @@ fn to_arguments(line: &mut [u8]) {
     }
 }
 
-fn run_case(line: &mut [u8], words: &mut [u64], inventory: &mut [u64], spill: &mut [u64]) {
+fn run_case(
+    line: &mut [u8],
+    words: &mut [u64],
+    inventory: &mut [u64],
+    spill: &mut [u64],
+    image: &mut [u8],
+) {
     io::write_all(STDOUT_FILENO, b"$ find_edge ");
     io::write_all(STDOUT_FILENO, line);
     io::write_all(STDOUT_FILENO, b"\n");
     to_arguments(line);
-    find_edge(line, words, inventory, spill, STDOUT_FILENO, STDOUT_FILENO);
+    find_edge(
+        line,
+        words,
+        inventory,
+        spill,
+        image,
+        STDOUT_FILENO,
+        STDOUT_FILENO,
+    );
 }
 
-fn run_cases(text: &mut [u8], words: &mut [u64], inventory: &mut [u64], spill: &mut [u64]) {
+fn run_cases(
+    text: &mut [u8],
+    words: &mut [u64],
+    inventory: &mut [u64],
+    spill: &mut [u64],
+    image: &mut [u8],
+) {
     let mut from = 0;
     while from < text.len() {
         let to = bytes::scan::find(text, from, text.len(), b'\n');
-        run_case(&mut text[from..to], words, inventory, spill);
+        run_case(&mut text[from..to], words, inventory, spill, image);
         if to == text.len() {
             return;
         }
@@ -52,8 +72,15 @@ fn main() {
     let mut words = [0u64; 524288];
     let mut inventory = [0u64; 131072];
     let mut spill = [0u64; 1];
+    let mut image = [0u8; 4096];
     let mut text = io::large_buffer();
     let n = io::read_full(os::open_read(b"cases"), &mut text);
-    run_cases(&mut text[..n], &mut words, &mut inventory, &mut spill);
+    run_cases(
+        &mut text[..n],
+        &mut words,
+        &mut inventory,
+        &mut spill,
+        &mut image,
+    );
     refusals();
 }

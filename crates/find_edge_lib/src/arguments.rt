@@ -24,12 +24,15 @@ enum Word {
     Span,
     Power,
     Overhead,
+    Save,
+    Index,
     Help,
     Unknown,
     Plain,
 }
 
-// What the arguments so far ask for. `awaits` is the option whose value comes next, or Plain.
+// What the arguments so far ask for. `awaits` is the option whose value comes next, or Plain. The file to save to is named by
+// the arguments' bytes from `save_from` to `save_to`, and opened when there is something to save.
 pub struct Request {
     pub is_zeros: bool,
     pub has_samples: bool,
@@ -40,6 +43,11 @@ pub struct Request {
     pub has_file: bool,
     pub fd: i32,
     pub edges: usize,
+    pub has_save: bool,
+    pub save_from: usize,
+    pub save_to: usize,
+    pub has_index: bool,
+    pub index_fd: i32,
 }
 
 // The request, the usage, or a stop: the error line is written.
@@ -113,6 +121,12 @@ fn word_of(text: &[u8]) -> Word {
     if check::same(text, b"--overhead") {
         return Word::Overhead;
     }
+    if check::same(text, b"--save") {
+        return Word::Save;
+    }
+    if check::same(text, b"--index") {
+        return Word::Index;
+    }
     if check::same(text, b"--help") {
         return Word::Help;
     }
@@ -135,6 +149,11 @@ fn with_choice(request: Request, choice: Choice, awaits: Word) -> Request {
         has_file: request.has_file,
         fd: request.fd,
         edges: request.edges,
+        has_save: request.has_save,
+        save_from: request.save_from,
+        save_to: request.save_to,
+        has_index: request.has_index,
+        index_fd: request.index_fd,
     }
 }
 
@@ -215,6 +234,25 @@ fn take_file(mut request: Request, text: &[u8], err: i32) -> Asked {
     Asked::Request(request)
 }
 
+// The file to save to stands in the arguments from `from` on.
+fn take_save(mut request: Request, from: usize, to: usize) -> Asked {
+    request.has_save = true;
+    request.save_from = from;
+    request.save_to = to;
+    Asked::Request(awaiting(request, Word::Plain))
+}
+
+fn take_index(mut request: Request, text: &[u8], err: i32) -> Asked {
+    let fd = os::open_read(text);
+    if fd < 0 {
+        report::index_not_opened(err, text);
+        return Asked::Stop;
+    }
+    request.has_index = true;
+    request.index_fd = fd;
+    Asked::Request(awaiting(request, Word::Plain))
+}
+
 fn put(edges: &mut [u64; MOST_EDGES], i: usize, rank: u64) {
     if i < MOST_EDGES {
         edges[i] = rank;
@@ -270,16 +308,30 @@ fn take_word(mut request: Request, text: &[u8], edges: &mut [u64; MOST_EDGES], e
     }
 }
 
-fn take_argument(request: Request, text: &[u8], edges: &mut [u64; MOST_EDGES], err: i32) -> Asked {
+// The argument in the bytes from `from` to `to`.
+fn take_argument(
+    request: Request,
+    text: &[u8],
+    from: usize,
+    to: usize,
+    edges: &mut [u64; MOST_EDGES],
+    err: i32,
+) -> Asked {
     let awaits = request.awaits;
     match awaits {
         Word::Plain => take_word(request, text, edges, err),
         Word::Overhead => take_percentage(request, text, err),
+        Word::Save => take_save(request, from, to),
+        Word::Index => take_index(request, text, err),
         _ => take_number(request, awaits, text, err),
     }
 }
 
 fn finish(request: Request, err: i32) -> Asked {
+    if request.has_save && request.has_index {
+        report::save_and_index(err);
+        return Asked::Stop;
+    }
     let awaits = request.awaits;
     match awaits {
         Word::Plain => Asked::Request(request),
@@ -302,6 +354,11 @@ fn nothing() -> Request {
         has_file: false,
         fd: libc::STDIN_FILENO,
         edges: 0,
+        has_save: false,
+        save_from: 0,
+        save_to: 0,
+        has_index: false,
+        index_fd: libc::STDIN_FILENO,
     }
 }
 
@@ -310,7 +367,7 @@ pub fn parse_arguments(args: &[u8], edges: &mut [u64; MOST_EDGES], err: i32) -> 
     let mut from = 0;
     while from < args.len() {
         let to = bytes::scan::find(args, from, args.len(), 0);
-        let asked = take_argument(request, &args[from..to], edges, err);
+        let asked = take_argument(request, &args[from..to], from, to, edges, err);
         match asked {
             Asked::Request(next) => {
                 request = next;

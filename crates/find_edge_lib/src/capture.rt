@@ -30,9 +30,13 @@ fn read_chunk(fd: i32, words: &mut [u64], at: usize) -> Chunk {
 }
 
 // read_full stops short at the end of the input and where a read fails: one more read tells them apart.
-fn ended(fd: i32, samples: u64) -> Capture {
+pub fn is_at_end(fd: i32) -> bool {
     let mut one = [0u8; 1];
-    if libc::read(fd, &mut one) == 0 {
+    libc::read(fd, &mut one) == 0
+}
+
+fn ended(fd: i32, samples: u64) -> Capture {
+    if is_at_end(fd) {
         return Capture::Samples(samples);
     }
     Capture::Failed

@@ -4,6 +4,7 @@ ghost use Prim.Native.Nat.{_<_};
 mod arguments;
 mod capture;
 mod report;
+mod saved;
 
 use arguments::Asked;
 use arguments::Gathered;
@@ -26,6 +27,9 @@ use edge_index::select;
 use libc::STDERR_FILENO;
 use libc::STDOUT_FILENO;
 pub use report::refused;
+use saved::Indexed;
+use saved::open_index;
+use saved::save_index;
 
 // The line of one edge; false where there is none, and the error line is written.
 fn show_edge(
@@ -153,46 +157,72 @@ fn show(
     report::cells_line(out, summary.inventory_len, summary.spill_len);
 }
 
-// No jump before the check says yes.
-fn answer(
-    words: &[u64],
-    len: u64,
-    origin: u64,
-    polarity: Polarity,
-    choice: Choice,
-    inventory: &mut [u64],
-    spill: &mut [u64],
-    edges: &[u64; MOST_EDGES],
-    n: usize,
-    out: i32,
-    err: i32,
-) {
-    match build(words, len, origin, polarity, choice, inventory, spill) {
-        Built::Refused(refusal) => refused(err, refusal),
-        Built::Summary(summary) => {
-            match check_index(
-                words,
-                len,
-                origin,
-                polarity,
-                choice,
-                summary,
-                inventory,
-                spill,
-            ) {
-                Checked::Yes => show(words, summary, inventory, spill, edges, n, out, err),
-                Checked::No => report::not_checked(err),
-                Checked::Refused(refusal) => refused(err, refusal),
-            }
-        }
-    }
-}
-
 fn polarity_of(is_zeros: bool) -> Polarity {
     if is_zeros {
         return Polarity::Zeros;
     }
     Polarity::Ones
+}
+
+// Whether the check says yes; where it does not, the error line is written.
+fn passes(
+    request: Request,
+    words: &[u64],
+    len: u64,
+    summary: Summary,
+    inventory: &[u64],
+    spill: &[u64],
+    err: i32,
+) -> bool {
+    let polarity = polarity_of(request.is_zeros);
+    let choice = request.choice;
+    match check_index(
+        words,
+        len,
+        request.origin,
+        polarity,
+        choice,
+        summary,
+        inventory,
+        spill,
+    ) {
+        Checked::Yes => true,
+        Checked::No => {
+            report::not_checked(err, request.has_index);
+            false
+        }
+        Checked::Refused(refusal) => {
+            refused(err, refusal);
+            false
+        }
+    }
+}
+
+fn build_index(
+    request: Request,
+    words: &[u64],
+    len: u64,
+    inventory: &mut [u64],
+    spill: &mut [u64],
+    err: i32,
+) -> Indexed {
+    let polarity = polarity_of(request.is_zeros);
+    let choice = request.choice;
+    match build(
+        words,
+        len,
+        request.origin,
+        polarity,
+        choice,
+        inventory,
+        spill,
+    ) {
+        Built::Summary(summary) => Indexed::Summary(summary),
+        Built::Refused(refusal) => {
+            refused(err, refusal);
+            Indexed::Stop
+        }
+    }
 }
 
 // The samples asked for, or all of them.
@@ -203,12 +233,87 @@ fn samples_of(has_samples: bool, samples: u64, all: u64) -> u64 {
     all
 }
 
+// The index of a record of `len` samples: from its file, or built.
+fn index_of(
+    request: Request,
+    words: &[u64],
+    len: u64,
+    inventory: &mut [u64],
+    spill: &mut [u64],
+    image: &mut [u8],
+    err: i32,
+) -> Indexed {
+    if request.has_index {
+        return open_index(request.index_fd, image, inventory, spill, err);
+    }
+    build_index(request, words, len, inventory, spill, err)
+}
+
+// The part of the arguments that holds a name.
+fn name_in(args: &[u8], from: usize, to: usize) -> &[u8] {
+    if from > to || to > args.len() {
+        return &args[..0];
+    }
+    &args[from..to]
+}
+
+// Saves the index where that is asked for; false where it fails.
+fn save(
+    request: Request,
+    args: &[u8],
+    summary: Summary,
+    inventory: &[u64],
+    spill: &[u64],
+    image: &mut [u8],
+    out: i32,
+    err: i32,
+) -> bool {
+    if !request.has_save {
+        return true;
+    }
+    let name = name_in(args, request.save_from, request.save_to);
+    save_index(name, summary, inventory, spill, image, out, err)
+}
+
+// No jump before the check says yes, and nothing is saved.
+fn present(
+    request: Request,
+    args: &[u8],
+    words: &[u64],
+    len: u64,
+    summary: Summary,
+    inventory: &[u64],
+    spill: &[u64],
+    image: &mut [u8],
+    edges: &[u64; MOST_EDGES],
+    out: i32,
+    err: i32,
+) {
+    if !passes(request, words, len, summary, inventory, spill, err) {
+        return;
+    }
+    if save(request, args, summary, inventory, spill, image, out, err) {
+        show(
+            words,
+            summary,
+            inventory,
+            spill,
+            edges,
+            request.edges,
+            out,
+            err,
+        );
+    }
+}
+
 fn answer_request(
     request: Request,
+    args: &[u8],
     words: &[u64],
     all: u64,
     inventory: &mut [u64],
     spill: &mut [u64],
+    image: &mut [u8],
     edges: &[u64; MOST_EDGES],
     out: i32,
     err: i32,
@@ -218,28 +323,31 @@ fn answer_request(
         report::too_many_samples(err, len, all);
         return;
     }
-    let polarity = polarity_of(request.is_zeros);
-    let choice = request.choice;
-    answer(
-        words,
-        len,
-        request.origin,
-        polarity,
-        choice,
-        inventory,
-        spill,
-        edges,
-        request.edges,
-        out,
-        err,
-    )
+    match index_of(request, words, len, inventory, spill, image, err) {
+        Indexed::Summary(summary) => present(
+            request,
+            args,
+            words,
+            len,
+            summary,
+            inventory,
+            spill,
+            image,
+            edges,
+            out,
+            err,
+        ),
+        Indexed::Stop => {}
+    }
 }
 
 fn run_request(
     request: Request,
+    args: &[u8],
     words: &mut [u64],
     inventory: &mut [u64],
     spill: &mut [u64],
+    image: &mut [u8],
     edges: &[u64; MOST_EDGES],
     out: i32,
     err: i32,
@@ -249,10 +357,12 @@ fn run_request(
         Capture::Failed => report::not_read(err),
         Capture::Samples(all) => answer_request(
             request,
+            args,
             words,
             all,
             inventory,
             spill,
+            image,
             edges,
             out,
             err,
@@ -266,19 +376,30 @@ pub fn find_edge(
     words: &mut [u64],
     inventory: &mut [u64],
     spill: &mut [u64],
+    image: &mut [u8],
     out: i32,
     err: i32,
 ) {
     let mut edges = [0u64; MOST_EDGES];
     match parse_arguments(args, &mut edges, err) {
-        Asked::Request(request) => run_request(request, words, inventory, spill, &edges, out, err),
+        Asked::Request(request) => run_request(
+            request,
+            args,
+            words,
+            inventory,
+            spill,
+            image,
+            &edges,
+            out,
+            err,
+        ),
         Asked::Help => report::usage(out),
         Asked::Stop => {}
     }
 }
 
 // The same on the arguments that the program was started with.
-pub fn run(words: &mut [u64], inventory: &mut [u64], spill: &mut [u64]) {
+pub fn run(words: &mut [u64], inventory: &mut [u64], spill: &mut [u64], image: &mut [u8]) {
     let mut args = io::large_buffer();
     match gather(&mut args) {
         Gathered::Full => report::too_many_arguments(STDERR_FILENO),
@@ -287,6 +408,7 @@ pub fn run(words: &mut [u64], inventory: &mut [u64], spill: &mut [u64]) {
             words,
             inventory,
             spill,
+            image,
             STDOUT_FILENO,
             STDERR_FILENO,
         ),

@@ -28,7 +28,8 @@ pub fn usage(fd: i32) {
         fd,
         b"\
 find_edge [FILE] [EDGE ..] [--zeros] [--samples N] [--origin N]
-          [--span N | --power L | --overhead P] [--help]
+          [--span N | --power L | --overhead P]
+          [--save FILE | --index FILE] [--help]
 
 FILE          the capture, eight samples to a byte; - or none: standard input
 EDGE          an edge to find, by its number from 0; several in rising order
@@ -38,6 +39,8 @@ EDGE          an edge to find, by its number from 0; several in rising order
 --span N      an index entry for about every N samples; the default, N 4096
 --power L     an index entry for every 2^L edges
 --overhead P  aim at an index of P percent of the capture's size, as 12.5
+--save FILE   save the index to FILE
+--index FILE  take the index from FILE, saved with the same options
 --help        print this text and stop
 
 With edge numbers it prints the count, each edge's sample, and the period from
@@ -71,14 +74,14 @@ pub fn unknown_option(fd: i32, text: &[u8]) {
     begin(fd, text);
     say(
         fd,
-        b"' is no option: use --zeros, --samples N, --origin N, --span N, --power L, --overhead P or --help\n",
+        b"' is no option: use --zeros, --samples N, --origin N, --span N, --power L, --overhead P, --save FILE, --index FILE or --help\n",
     );
 }
 
 pub fn no_value(fd: i32) {
     say(
         fd,
-        b"find_edge: the last option has no value: write a number after it, as --span 4096\n",
+        b"find_edge: the last option has no value: write one after it, as --span 4096\n",
     );
 }
 
@@ -105,6 +108,43 @@ pub fn not_opened(fd: i32, text: &[u8], is_missing: bool) {
     say(
         fd,
         b": give the name of a capture, or - for standard input\n",
+    );
+}
+
+pub fn index_not_opened(fd: i32, text: &[u8]) {
+    begin(fd, text);
+    say(
+        fd,
+        b"' cannot be opened: give the name of a file that --save wrote\n",
+    );
+}
+
+pub fn index_not_read(fd: i32) {
+    say(
+        fd,
+        b"find_edge: the index cannot be read to its end: give the name of a file that --save wrote\n",
+    );
+}
+
+pub fn index_too_long(fd: i32) {
+    say(
+        fd,
+        b"find_edge: the index is longer than this program's buffers: leave --index out\n",
+    );
+}
+
+pub fn save_and_index(fd: i32) {
+    say(
+        fd,
+        b"find_edge: an index is either saved or taken: give --save or --index, not both\n",
+    );
+}
+
+pub fn not_saved(fd: i32, text: &[u8]) {
+    begin(fd, text);
+    say(
+        fd,
+        b"' cannot be written: give --save the name of a file that can\n",
     );
 }
 
@@ -142,7 +182,15 @@ pub fn no_such_edge(fd: i32, rank: u64, count: u64) {
     say(fd, b"\n");
 }
 
-pub fn not_checked(fd: i32) {
+// A saved index that does not pass is another capture's, or another choice's; a built one always passes.
+pub fn not_checked(fd: i32, is_saved: bool) {
+    if is_saved {
+        say(
+            fd,
+            b"find_edge: the index belongs to another capture, or was saved with other options: leave --index out\n",
+        );
+        return;
+    }
     say(
         fd,
         b"find_edge: the index does not pass the check against the record: run the program again\n",
@@ -196,6 +244,14 @@ fn say_meaning(fd: i32, refusal: Refusal) {
             fd,
             b"the origin and the number of samples come to over 2^62 - 1: give a smaller --origin",
         ),
+        Refusal::ImageUnlawful => say(
+            fd,
+            b"the bytes are no image of an index: give --index a file that --save wrote",
+        ),
+        Refusal::PlaceTooShort => say(
+            fd,
+            b"the place is shorter than the index's image: choose a larger span, as --span 65536",
+        ),
     }
 }
 
@@ -244,6 +300,12 @@ pub fn spacing_line(fd: i32, plan: Parameters) {
     say(fd, b", S ");
     say_number(fd, plan.log2_ones_per_sub16 as u64);
     say(fd, b"\n");
+}
+
+pub fn saved_line(fd: i32, bytes: u64) {
+    say(fd, b"saved: ");
+    say_number(fd, bytes);
+    say(fd, b" bytes\n");
 }
 
 pub fn cells_line(fd: i32, inventory: u64, spill: u64) {

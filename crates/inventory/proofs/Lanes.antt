@@ -10,6 +10,8 @@ use lib.Arith.{digits-lt}
 use lib.ListN.{length, drop, getD, set, length-append, List·getD-append}
 use lib.Pow.{pow-mono, pow-add, shl-exact}
 use lib.Seq.{drop-cons, set-at, getD-at}
+use Rattle.rank_sel.specs.Lists.{Below}
+use Rattle.rank_sel.proofs.Lists.{below-append, below-none, below-cons}
 use Rattle.rank_sel.proofs.Numbers.{lt-or-le}
 use Rattle.inventory.specs.Lanes.{pack, tabulate}
 
@@ -33,6 +35,11 @@ pack-lt w v h (suc n) =
     let e : 2 ^ (w * suc n) ≡ 2 ^ w * 2 ^ (w * n) = ap (λ (z : ℕ). 2 ^ z) (mul-suc w n ∙ omega arith) ∙ pow-add 2 w (w * n) in
     let d = digits-lt {q = v n} {m = 2 ^ w} {r = pack w v n} {c = 2 ^ (w * n)} (h n) (pack-lt w v h n) in
     rw e (omega arith)
+
+pub pack-ext : (w : ℕ) (u v : ℕ → ℕ) (n : ℕ) → ((t : ℕ) → t < n → u t ≡ v t) → pack w u n ≡ pack w v n
+unfolding pack
+pack-ext w u v zero h = refl
+pack-ext w u v (suc n) h = rw (pack-ext w u v n (λ t l. h t (omega arith)), h n (omega arith))
 
 -- lane t of w bits stands in a cell of 64
 pub lane-fits : (w n t : ℕ) → w * n ≡ 64 → t < n → w + w * t ≤ 64
@@ -76,6 +83,12 @@ tab-at v (suc n) i h = ⊎-elim
     let e : n ≡ i = omega arith in
     getD-at (tabulate v n) (v n) [] 0 i (tab-length v n ∙ e) ∙ ap v e)
     (lt-or-le i n)
+
+pub tab-below : (m : ℕ) (v : ℕ → ℕ) → 0 < m → ((i : ℕ) → v i < m) → (n : ℕ) → Below m (tabulate v n)
+unfolding tabulate
+tab-below m v z h zero = below-none m z
+tab-below m v z h (suc n) =
+    below-append m (tabulate v n) (v n ∷ []) (tab-below m v z h n) (below-cons m (v n) [] (h n) (below-none m z))
 
 -- a store just behind what is done
 pub push : (p l : List ℕ) (k v : ℕ) → length p ≡ k → k < length l → set (p ++ drop k l) k v ≡ (p ++ (v ∷ [])) ++ drop (suc k) l

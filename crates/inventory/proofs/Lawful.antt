@@ -1,14 +1,16 @@
--- The test of a summary: what passing it shows, and how the inventory count is held to its rule without being reckoned.
+-- The tests of a summary and its cells: what passing them shows, and how the inventory count is held to its rule without being reckoned.
 use mathlib.Core.Bool.{Bool, true, false, false≢true, _||_}
+use mathlib.Core.List.{List}
 use mathlib.Core.Path.{_≡_, refl, sym, ap, _∙_}
 use Prim.Native.Nat.{ℕ, _+_, _-_, _*_, _/_, _%_, _^_, _≤_, _<_}
 use native.Mathlib.Nat.{mul-div-left, div-mul-le-self, mod-eq-of-lt}
 use native.Mathlib.Omega.{arith}
 use lib.Dec.{eqb}
 use borrow.Author.Tests.{ltb-false, le-ltb, eqb-true, eqb-false, eq-eqb, ne-eqb, not-false}
+use Rattle.rank_sel.specs.Outcome.{NoneOf}
 use Rattle.spacing.specs.Spacing.{N, L, M, S, maxLog2Words}
 use Rattle.inventory.specs.Index.{inventoryLenOf}
-use Rattle.inventory.specs.Lawful.{unlawful, Lawful}
+use Rattle.inventory.specs.Lawful.{unlawful, ofCells, Lawful, CellsHeld}
 use Rattle.inventory.specs.declared.summary.Summary.{Summary}
 
 -- ---- both ways between the condition and the rules
@@ -41,6 +43,14 @@ lawful-none t w =
       eq-eqb (S (t .plan)) (L (t .plan) - M (t .plan) - 2) (w .spaced),
       eq-eqb (t .«inventory_len») (inventoryLenOf (t .plan)) (w .counted),
     )
+
+-- ---- and between those of the cells and what they ask for
+module _ (t : Summary) (inv sp : List ℕ) where
+  pub cells-held : NoneOf (ofCells t inv sp) → CellsHeld t inv sp
+  cells-held h = record { own = ltb-false _ _ (h .0); over = ltb-false _ _ (h .1 .0) }
+
+  pub cells-none : CellsHeld t inv sp → NoneOf (ofCells t inv sp)
+  cells-none w = (le-ltb _ _ (w .own), (le-ltb _ _ (w .over), tt))
 
 -- ---- n is e * (m + 1) + 1, tested on what is left of n without e and 1
 module _ (n e m : ℕ) where

@@ -1,20 +1,28 @@
--- Where each entry's cells stand in the inventory and in the spill, whatever stands past the counts.
-use mathlib.Core.Path.{_≡_, refl, sym, ap, _∙_}
-use mathlib.Core.List.{List, [], _∷_, _++_}
-use Prim.Native.Nat.{ℕ, zero, suc, _+_, _-_, _*_, _^_, _≤_, _<_}
+-- Where each entry's cells stand in the inventory and in the spill, whatever stands past the counts; and that cells which stand so
+-- are the index within them.
+use mathlib.Core.Path.{_≡_, refl, sym, ap, _∙_, subst}
+use mathlib.Core.List.{List, [], _∷_, _++_, append-nil}
+use mathlib.Core.Logic.{⊎-elim}
+use Prim.Native.Nat.{ℕ, zero, suc, _+_, _-_, _*_, _/_, _%_, _^_, _≤_, _<_}
+use native.Mathlib.Nat.{div-add-mod', div-lt-iff-lt-mul, mod-lt}
 use native.Mathlib.Omega.{arith}
 use lib.Arith.{digits-lt}
 use lib.ListN.{length, getD, take, length-append, List·getD-append}
 use lib.Pow.{pow-pos}
 use lib.Seq.{getD-append-add, getD-at}
-use Rattle.rank_sel.proofs.Numbers.{lt-suc-cases}
+use Rattle.rank_sel.proofs.Lists.{front-is}
+use Rattle.rank_sel.proofs.Numbers.{lt-or-le, lt-suc-cases}
 use Rattle.spacing.specs.Spacing.{M}
 use Rattle.spacing.specs.declared.Parameters.{Parameters}
-use Rattle.inventory.specs.Index.{entriesOf, stride, inventoryLenOf, packed, stream, ownCells, spillCells, startOf, entryOf, spillStart, inventoryTo, spillTo, inventoryOf, spillOf}
+use Rattle.inventory.specs.Index.{entriesOf, stride, inventoryLenOf, lane, packed, stream, ownCells, spillCells, startOf, entryOf, spillStart, inventoryTo, spillTo, inventoryOf, spillOf}
+use Rattle.inventory.specs.Lanes.{laneOf}
+use Rattle.inventory.specs.Shape.{Shaped}
 use Rattle.inventory.specs.declared.entry.Entry.{Entry}
 use Rattle.inventory.proofs.Lanes.{tab-at}
 use Rattle.inventory.proofs.Marks.{few-heads, heads-length, own-length}
 use Rattle.inventory.proofs.Index.{spillStart-more, spillStart-mono, inventory-length, spill-to-length}
+use Rattle.inventory.proofs.Sums.{tile}
+use Rattle.inventory.proofs.Unpack.{cell-by-lanes}
 
 -- ---- the cells of one entry
 head-at : (h a b c : ℕ) → h ≤ 1 → c ≤ h → getD (take (1 + h) (a ∷ b ∷ [])) c 0 ≡ getD (a ∷ b ∷ []) c 0
@@ -130,3 +138,66 @@ placed pos p a b =
           (rw (spill-to-length pos p n) (omega (arith, spillStart-more pos p e, spillStart-mono pos p (e + 1) n (omega arith))))
           ∙ spill-at pos p n e j h l;
     }
+
+-- ---- cells told one by one
+-- a cell that an entry packs, by its lanes
+pub packed-by-lanes : (pos : ℕ → ℕ) (x : Entry) → Shaped (x .shape) → (c i : ℕ) → c < 2 ^ 64
+    → ((t : ℕ) → t < x .shape .lanes → laneOf (x .shape .width) c t ≡ lane pos x (i + t)) → c ≡ packed pos x i
+unfolding packed
+packed-by-lanes pos x h c i l f = cell-by-lanes (x .shape .width) (x .shape .lanes) c (λ t. lane pos x (i + t)) (h .cell) l f
+
+-- an entry's own cells are told by the first, the second where it has such a head, and those that it packs
+module _ (pos : ℕ → ℕ) (x : Entry) (hh : x .shape .heads ≤ 1) (before own : ℕ) (v : ℕ → ℕ) (first : v 0 ≡ x .start + x .shape .tag)
+    (second : x .shape .heads ≡ 1 → v 1 ≡ before)
+    (others : (j : ℕ) → j < own - x .shape .heads → v (1 + x .shape .heads + j) ≡ packed pos x (x .shape .from + j * x .shape .lanes)) where
+  own-heads : (c : ℕ) → c ≤ x .shape .heads → v c ≡ getD (ownCells pos x before own) c 0
+  own-heads zero l = first ∙ sym (own-first pos x hh before own)
+  own-heads (suc zero) l = let e : x .shape .heads ≡ 1 = omega arith in second e ∙ sym (own-second pos x hh before own e)
+  own-heads (suc (suc c)) l = absurd (omega arith)
+
+  pub own-cells : (c : ℕ) → c < own + 1 → v c ≡ getD (ownCells pos x before own) c 0
+  own-cells c l = ⊎-elim
+      (λ (k : c < 1 + x .shape .heads). own-heads c (omega arith))
+      (λ (k : 1 + x .shape .heads ≤ c).
+      let j : ℕ = c - (1 + x .shape .heads) in
+      let b : j < own - x .shape .heads = omega arith in
+      subst (λ (n : ℕ). v n ≡ getD (ownCells pos x before own) n 0) (omega arith) (others j b ∙ sym (own-cell pos x hh before own j b)))
+      (lt-or-le c (1 + x .shape .heads))
+
+-- cells placed are the same within the counts
+module _ (pos : ℕ → ℕ) (p : Parameters) (a b c d : List ℕ) (w : Placed pos p a b) (z : Placed pos p c d) where
+  same-inventory : (i : ℕ) → i < inventoryLenOf p → getD a i 0 ≡ getD c i 0
+  unfolding inventoryLenOf
+  same-inventory i h = ⊎-elim
+      (λ (l : i < entriesOf p * stride p).
+      let e : ℕ = i / stride p in
+      let j : ℕ = i % stride p in
+      let k : e < entriesOf p = div-lt-iff-lt-mul (omega arith) .1 l in
+      let m : j < stride p = mod-lt i (omega arith) in
+      subst (λ (n : ℕ). getD a n 0 ≡ getD c n 0) (div-add-mod' i (stride p)) (w .own e j k m ∙ sym (z .own e j k m)))
+      (λ (l : entriesOf p * stride p ≤ i).
+      let e : i ≡ entriesOf p * stride p = omega arith in
+      rw e (w .closing ∙ sym (z .closing)))
+      (lt-or-le i (entriesOf p * stride p))
+
+  same-spill : (i : ℕ) → i < spillStart pos p (entriesOf p) → getD b i 0 ≡ getD d i 0
+  unfolding spillStart
+  same-spill i h =
+      let k = tile (λ e. entryOf pos p e .spilled) (entriesOf p) i h in
+      let e : ℕ = k .0 in
+      let j : ℕ = i - spillStart pos p e in
+      let l : j < entryOf pos p e .spilled = omega (arith, k .2, k .3) in
+      subst (λ (n : ℕ). getD b n 0 ≡ getD d n 0) (omega (arith, k .2)) (w .over e j (k .1) l ∙ sym (z .over e j (k .1) l))
+
+-- and begin with the index
+module _ (pos : ℕ → ℕ) (p : Parameters) (inv sp : List ℕ) (w : Placed pos p inv sp) where
+  index : Placed pos p (inventoryOf pos p) (spillOf pos p)
+  index = simp append-nil at (placed pos p [] [])
+
+  pub placed-inventory : inventoryLenOf p ≤ length inv → take (inventoryLenOf p) inv ≡ inventoryOf pos p
+  placed-inventory h =
+      front-is (inventoryLenOf p) inv (inventoryOf pos p) h (length-inventory pos p) (same-inventory pos p inv sp _ _ w index)
+
+  pub placed-spill : spillStart pos p (entriesOf p) ≤ length sp → take (spillStart pos p (entriesOf p)) sp ≡ spillOf pos p
+  placed-spill h =
+      front-is (spillStart pos p (entriesOf p)) sp (spillOf pos p) h (length-spill pos p) (same-spill pos p inv sp _ _ w index)

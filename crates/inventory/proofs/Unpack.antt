@@ -1,13 +1,13 @@
--- Lanes read back from the cell that was packed from them.
+-- Lanes read back from the cell that was packed from them, and a cell packed from its lanes.
 use mathlib.Core.Path.{_≡_, sym, ap, _∙_}
 use Prim.Native.Nat.{ℕ, zero, suc, _+_, _-_, _*_, _/_, _%_, _^_, _<_}
-use native.Mathlib.Nat.{mul-suc, mul-add, mul-assoc, mod-eq-of-lt, mul-add-mod-self-right}
+use native.Mathlib.Nat.{mul-zero, mul-suc, mul-add, mul-assoc, mod-one, mod-lt, mod-eq-of-lt, mul-add-mod-self-right}
 use native.Mathlib.Omega.{arith}
 use lib.Arith.{digits-div}
-use lib.Pow.{pow-add, field}
+use lib.Pow.{pow-add, pow-pos, mod-pow-add, field}
 use Rattle.rank_sel.proofs.Numbers.{lt-suc-cases}
 use Rattle.inventory.specs.Lanes.{laneOf, pack}
-use Rattle.inventory.proofs.Lanes.{pack-lt}
+use Rattle.inventory.proofs.Lanes.{pack-lt, pack-ext}
 
 -- what lies above a lane does not alter it
 lane-below : (a v w t n : ℕ) → t < n → (a + v * 2 ^ (w * n)) / 2 ^ (w * t) % 2 ^ w ≡ a / 2 ^ (w * t) % 2 ^ w
@@ -33,3 +33,22 @@ pack-lane w v h (suc n) t l =
     let c : pack w v n + v n * 2 ^ (w * n) ≡ v n * 2 ^ (w * n) + pack w v n = omega arith in
     ap (λ (k : ℕ). k / 2 ^ (w * n) % 2 ^ w) c ∙ ap (λ (k : ℕ). k % 2 ^ w) (digits-div (v n) (pack-lt w v h n)) ∙ mod-eq-of-lt (h n))
     (pack-lane w v h n t)
+
+pub lane-lt : (w c t : ℕ) → laneOf w c t < 2 ^ w
+unfolding laneOf
+lane-lt w c t = mod-lt (c / 2 ^ (w * t)) (pow-pos w)
+
+-- the lanes below number n, and one more
+lane-more : (w c n : ℕ) → c % 2 ^ (w * n) + laneOf w c n * 2 ^ (w * n) ≡ c % 2 ^ (w * suc n)
+unfolding laneOf
+lane-more w c n = let e : w * suc n ≡ w + w * n = mul-suc w n ∙ omega arith in rw (e, mod-pow-add c w (w * n)) (omega arith)
+
+pub lanes-pack : (w c n : ℕ) → pack w (laneOf w c) n ≡ c % 2 ^ (w * n)
+unfolding pack
+lanes-pack w c zero = sym (ap (λ (z : ℕ). c % 2 ^ z) (mul-zero w) ∙ mod-one c)
+lanes-pack w c (suc n) = rw (lanes-pack w c n) (lane-more w c n)
+
+-- a cell is told by its lanes
+pub cell-by-lanes : (w n c : ℕ) (v : ℕ → ℕ) → w * n ≡ 64 → c < 2 ^ 64 → ((t : ℕ) → t < n → laneOf w c t ≡ v t) → c ≡ pack w v n
+cell-by-lanes w n c v e l h =
+    sym (mod-eq-of-lt l) ∙ ap (λ (z : ℕ). c % 2 ^ z) (sym e) ∙ sym (lanes-pack w c n) ∙ pack-ext w (laneOf w c) v n h

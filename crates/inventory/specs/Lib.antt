@@ -2,3 +2,4 @@ pub mod Shape
 pub mod Lanes
 pub mod Index
 pub mod Lawful
+pub mod Numbers

@@ -5,3 +5,4 @@ pub mod Rank
 pub mod Seek
 pub mod Select
 pub mod Outcome
+pub mod Lists

@@ -1,12 +1,12 @@
 -- Laws of outcomes.
-use mathlib.Core.Bool.{Bool, true, false}
+use mathlib.Core.Bool.{Bool, true, false, _||_, false≢true}
 use mathlib.Core.Logic.{_↔_}
 use mathlib.Core.List.{[], _∷_, _++_}
 use mathlib.Core.Option.{Option, none, some}
 use mathlib.Core.Path.{_≡_, refl, sym, ap, _∙_}
 use Prim.Native.Nat.{ℕ}
 use native.Mathlib.Omega.{arith}
-use Rattle.rank_sel.specs.Outcome.{Outcome, answer, refused, numberOf, refuseIf, orRefuse, Conditions, refuseBy, testBy, NoneOf, tested, reasonOf, andThen}
+use Rattle.rank_sel.specs.Outcome.{Outcome, answer, refused, numberOf, refuseIf, orRefuse, Conditions, refuseBy, testBy, anyOf, NoneOf, tested, reasonOf, andThen}
 use Rattle.rank_sel.specs.declared.Refusal.{Refusal}
 use Rattle.rank_sel.specs.declared.Tested.{Tested}
 use Rattle.rank_sel.specs.declared.Tested.the-variants.{Passed, Refused}
@@ -114,6 +114,18 @@ none-split (c ∷ cs) ds h = let i = none-split cs ds (h .1) in ((h .0, i .0), i
 pub none-join : (cs ds : Conditions) → NoneOf cs → NoneOf ds → NoneOf (cs ++ ds)
 none-join [] ds h k = k
 none-join (c ∷ cs) ds h k = (h .0, none-join cs ds (h .1) k)
+
+pub any-none : (cs : Conditions) → anyOf cs ≡ false → NoneOf cs
+any-none [] e = tt
+any-none (c ∷ cs) e = go (c .0) refl (any-none cs) e
+  where
+    go : (b : Bool) → c .0 ≡ b → (anyOf cs ≡ false → NoneOf cs) → (b || anyOf cs) ≡ false → (c .0 ≡ false) × NoneOf cs
+    go true h ih k = absurd (false≢true (sym k))
+    go false h ih k = (h, ih k)
+
+pub none-any : (cs : Conditions) → NoneOf cs → anyOf cs ≡ false
+none-any [] h = refl
+none-any (c ∷ cs) h = rw (h .0) (none-any cs (h .1))
 
 -- x says what the tests found
 pub record Tells (cs : Conditions) (x : Tested) : Type 0 where

@@ -2,3 +2,4 @@ pub mod Numbers
 pub mod Rank
 pub mod Seek
 pub mod Outcome
+pub mod Lists

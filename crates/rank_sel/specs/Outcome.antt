@@ -1,5 +1,5 @@
 -- What a call answers: values, or the number of one refusal. Each answer enum has a definition that reads it as an Outcome.
-use mathlib.Core.Bool.{Bool, true, false}
+use mathlib.Core.Bool.{Bool, true, false, _||_}
 use mathlib.Core.List.{List, [], _∷_}
 use mathlib.Core.Option.{Option, none, some}
 use mathlib.Core.Path.{_≡_}
@@ -7,7 +7,7 @@ use Prim.Native.Nat.{ℕ}
 use Rattle.rank_sel.specs.declared.Answer.{Answer}
 use Rattle.rank_sel.specs.declared.Answer.the-variants.{Value, Refused}
 use Rattle.rank_sel.specs.declared.Refusal.{Refusal}
-use Rattle.rank_sel.specs.declared.Refusal.the-variants.{LenTooLarge, TooFewWords, OnesPerInventoryTooLarge, WordsPerSubinventoryTooLarge, OverheadNotPositive, InventoryTooShort, SpillTooShort, RankTooLarge, SummaryUnlawful, CellsUnlawful, RanksFall, ListFalls, TooFewPlaces, OriginTooLarge}
+use Rattle.rank_sel.specs.declared.Refusal.the-variants.{LenTooLarge, TooFewWords, OnesPerInventoryTooLarge, WordsPerSubinventoryTooLarge, OverheadNotPositive, InventoryTooShort, SpillTooShort, RankTooLarge, SummaryUnlawful, CellsUnlawful, RanksFall, ListFalls, TooFewPlaces, OriginTooLarge, ImageUnlawful, PlaceTooShort}
 use Rattle.rank_sel.specs.declared.Tested.{Tested}
 use Rattle.rank_sel.specs.declared.Tested.the-variants as Tested·v
 
@@ -31,6 +31,8 @@ numberOf RanksFall = 11
 numberOf ListFalls = 12
 numberOf TooFewPlaces = 13
 numberOf OriginTooLarge = 14
+numberOf ImageUnlawful = 15
+numberOf PlaceTooShort = 16
 
 abbrev pub answered : Answer → Outcome ℕ
 answered (Value n) = answer n
@@ -53,6 +55,11 @@ refuseBy (c ∷ cs) rest = refuseIf (c .0) (c .1) (refuseBy cs rest)
 -- the tests alone
 abbrev pub testBy : Conditions → Outcome (Unit {0})
 testBy cs = refuseBy cs (answer tt)
+
+-- one of them holds
+abbrev pub anyOf : Conditions → Bool
+anyOf [] = false
+anyOf (c ∷ cs) = c .0 || anyOf cs
 
 -- none of them holds
 abbrev pub NoneOf : Conditions → Type 0

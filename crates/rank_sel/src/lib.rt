@@ -21,10 +21,12 @@ pub enum Refusal {
     ListFalls,
     TooFewPlaces,
     OriginTooLarge,
+    ImageUnlawful,
+    PlaceTooShort,
 }
 
 // The rows, in their order.
-pub const REFUSAL_COUNT: usize = 14;
+pub const REFUSAL_COUNT: usize = 16;
 
 pub const REFUSALS: [Refusal; REFUSAL_COUNT] = [
     Refusal::LenTooLarge,
@@ -41,6 +43,8 @@ pub const REFUSALS: [Refusal; REFUSAL_COUNT] = [
     Refusal::ListFalls,
     Refusal::TooFewPlaces,
     Refusal::OriginTooLarge,
+    Refusal::ImageUnlawful,
+    Refusal::PlaceTooShort,
 ];
 
 // A number, or what the call was turned down for.
@@ -85,6 +89,8 @@ pub fn refusal_number(refusal: Refusal) -> u64
         Refusal::ListFalls => 12,
         Refusal::TooFewPlaces => 13,
         Refusal::OriginTooLarge => 14,
+        Refusal::ImageUnlawful => 15,
+        Refusal::PlaceTooShort => 16,
     }
 }
 

@@ -7,7 +7,7 @@ use native.Mathlib.Nat.{mod-le}
 use native.Mathlib.Omega.{arith}
 use lib.Dec.{leb, ltb}
 use borrow.Author.Tests.{ltb-false, leb-false}
-use Rattle.rank_sel.specs.Outcome.{Outcome, answer, refused, refuseIf, orRefuse, andThen}
+use Rattle.rank_sel.specs.Outcome.{Outcome, answer, refused, orRefuse, andThen}
 use Rattle.rank_sel.specs.Seek.{seek}
 use Rattle.rank_sel.proofs.Outcome.{answer-is, not-refused, then-answer}
 use Rattle.rank_sel.proofs.Seek.{answer-sought}
@@ -26,20 +26,16 @@ use Rattle.read_inventory.specs.declared.decode.Marked.the-variants as M
 use Rattle.read_inventory.proofs.Decoding.{decoded-marks}
 
 -- ---- a mark
--- a number, and the mark that it gives
-within : (o : Outcome ℕ) (len base p : ℕ) → andThen o (λ n. refuseIf (leb len (base + n)) 10 (answer (base + n))) ≡ answer p
-    → (n : ℕ) × (o ≡ answer n) × (p < len)
-within o len base p e =
-    let a = then-answer o (λ n. refuseIf (leb len (base + n)) 10 (answer (base + n))) p e in
-    let f = not-refused (leb len (base + a .0)) 10 (answer (base + a .0)) p (a .2) in
-    (a .0, a .1, omega (arith, answer-is (f .1), leb-false len (base + a .0) (f .0)))
-
-module _ (t : Summary) (inv sp : List ℕ) (e i p : ℕ) (m : markAt t inv sp e i ≡ answer p) where
-  numbered : (n : ℕ) × (numberAt t inv sp e (placeAt t inv e i) ≡ answer n) × (p < t .plan .len)
-  unfolding markAt
-  numbered =
-      within (numberAt t inv sp e (placeAt t inv e i)) (t .plan .len) (shapeAt t inv e .base) p
-      (not-refused (spanTooSmall (kindAt t inv e) (spanAt t inv e)) 10 _ p m .1)
+-- a mark that was read is the number at its place and the base, and lies below len
+pub mark-back : (t : Summary) (inv sp : List ℕ) (e i p : ℕ) → markAt t inv sp e i ≡ answer p
+    → (n : ℕ) × (numberAt t inv sp e (placeAt t inv e i) ≡ answer n) × (shapeAt t inv e .base + n ≡ p) × (p < t .plan .len)
+unfolding markAt
+mark-back t inv sp e i p m =
+    let k = not-refused (spanTooSmall (kindAt t inv e) (spanAt t inv e)) 10 _ p m in
+    let a = then-answer (numberAt t inv sp e (placeAt t inv e i)) _ p (k .1) in
+    let q : ℕ = shapeAt t inv e .base + a .0 in
+    let f = not-refused (leb (t .plan .len) q) 10 (answer q) p (a .2) in
+    (a .0, a .1, answer-is (f .1), omega (arith, answer-is (f .1), leb-false (t .plan .len) q (f .0)))
 
 module _ (t : Summary) (inv sp : List ℕ) (r : ℕ) (m : Mark) (e : markOfRank t inv sp r ≡ answer m) where
   mark-of : (p : ℕ) × (markAt t inv sp (entryOfRank t r) (markNumber t inv r) ≡ answer p) × (m .at ≡ p) × (m .residual ≡ residual t inv r)
@@ -49,7 +45,7 @@ module _ (t : Summary) (inv sp : List ℕ) (r : ℕ) (m : Mark) (e : markOfRank 
       (a .0, a .1, ap (λ (x : Mark). x .at) (sym (answer-is (a .2))), ap (λ (x : Mark). x .residual) (sym (answer-is (a .2))))
 
   pub mark-low : m .at < t .plan .len
-  mark-low = omega (arith, mark-of .2, numbered t inv sp (entryOfRank t r) (markNumber t inv r) (mark-of .0) (mark-of .1) .2)
+  mark-low = omega (arith, mark-of .2, mark-back t inv sp (entryOfRank t r) (markNumber t inv r) (mark-of .0) (mark-of .1) .3)
 
   pub residue-low : m .residual ≤ r
   unfolding residual
@@ -170,7 +166,7 @@ module _ {t : Summary} {inv sp : List ℕ} {r : ℕ} {d : Decoded} (w : ReadAs t
   unfolding numberAt
   over-low e =
       let o = over-at e in
-      let m = numbered t inv sp (entryOfRank t r) (markNumber t inv r) (d .mark) (w .mark) in
+      let m = mark-back t inv sp (entryOfRank t r) (markNumber t inv r) (d .mark) (w .mark) in
       let n : numberAt t inv sp (entryOfRank t r) (over (cellAt t inv (entryOfRank t r) 1 + o .0) (o .1)) ≡ answer (m .0) = rw (o .2) at
       (m .1) in
       let f = not-refused (leb (t .«spill_len») (cellAt t inv (entryOfRank t r) 1 + o .0)) 10 _ (m .0) n in
@@ -188,12 +184,15 @@ module _ (t : Summary) (inv sp : List ℕ) (r : ℕ) where
   hint-undecoded e = rw (← decoded-marks t inv sp r (refused 10) (sym e))
 
   -- and the mark by the hint
+  pub hint-back : (h : Hint) → hintAt t inv sp r ≡ answer h → markAt t inv sp (entryOfRank t r) (markNumber t inv r) ≡ answer (h .mark)
+  unfolding hintAt markOfRank
+  hint-back h e =
+      let m = then-answer (markOfRank t inv sp r) _ h e in
+      let p = then-answer (markAt t inv sp (entryOfRank t r) (markNumber t inv r)) _ (m .0) (m .1) in
+      p .1 ∙ ap answer (ap (λ (x : Mark). x .at) (answer-is (p .2)) ∙ ap (λ (x : Hint). x .mark) (answer-is (m .2)))
+
   pub hint-mark : (h : Hint) → hintAt t inv sp r ≡ answer h
       → markOfRank t inv sp r
       ≡ answer (record { at = h .mark; residual = residual t inv r; exact = isU64 (kindAt t inv (entryOfRank t r)) })
-  unfolding hintAt markOfRank
-  hint-mark h e =
-      let m = then-answer (markOfRank t inv sp r) _ h e in
-      let p = then-answer (markAt t inv sp (entryOfRank t r) (markNumber t inv r)) _ (m .0) (m .1) in
-      let k : p .0 ≡ h .mark = ap (λ (x : Mark). x .at) (answer-is (p .2)) ∙ ap (λ (x : Hint). x .mark) (answer-is (m .2)) in
-      rw (p .1, k)
+  unfolding markOfRank
+  hint-mark h e = rw (hint-back h e)

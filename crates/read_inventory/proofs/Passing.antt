@@ -2,7 +2,7 @@
 use mathlib.Core.List.{List, _++_}
 use mathlib.Core.Path.{_≡_}
 use Prim.Native.Nat.{ℕ, _<_}
-use borrow.Author.Tests.{ltb-false, leb-false, le-ltb}
+use borrow.Author.Tests.{leb-false}
 use Rattle.rank_sel.specs.Outcome.{refused, numberOf, testBy, NoneOf, tested, reasonOf}
 use Rattle.rank_sel.specs.declared.Refusal.{Refusal}
 use Rattle.rank_sel.specs.declared.Tested.{Tested}
@@ -11,11 +11,11 @@ use Rattle.rank_sel.proofs.Outcome.{none-split, none-join, Tells, passed-none, 
 use Rattle.bit_record.specs.Record.{ofRecordFrom, AdmittedFrom}
 use Rattle.bit_record.proofs.Counted.{admitted-from, admitted-from-none}
 use Rattle.spacing.specs.Spacing.{N}
-use Rattle.inventory.specs.Lawful.{ofSummary, Lawful}
+use Rattle.inventory.specs.Lawful.{ofSummary, ofCells, Lawful, CellsHeld}
 use Rattle.inventory.specs.declared.summary.Summary.{Summary}
-use Rattle.inventory.proofs.Lawful.{lawful, lawful-none}
+use Rattle.inventory.proofs.Lawful.{lawful, lawful-none, cells-held, cells-none}
 use Rattle.read_inventory.specs.Jump.{sampleOf, selectOf, hintSample, hintOf, dwellAt, dwellOf}
-use Rattle.read_inventory.specs.Tests.{ofCells, ofIndex, ofRank, ofRanks, CellsHeld, Readable}
+use Rattle.read_inventory.specs.Tests.{ofIndex, ofRank, ofRanks, Readable}
 
 module _ (ws : List ℕ) (t : Summary) (inv sp : List ℕ) where
   -- record, summary and cells
@@ -32,15 +32,14 @@ module _ (ws : List ℕ) (t : Summary) (inv sp : List ℕ) where
       record {
         from = admitted-from ws (t .plan .len) (t .origin) (s .0);
         lawful = lawful t (u .0 .0);
-        held = record { own = ltb-false _ _ (u .1 .0); over = ltb-false _ _ (u .1 .1 .0) };
+        held = cells-held t inv sp (u .1);
       }
 
   pub index-none : IndexHeld ws t inv sp → NoneOf (ofIndex ws t inv sp)
   index-none i =
       none-join (ofRecordFrom ws (t .plan .len) (t .origin)) (ofSummary t ++ ofCells t inv sp)
       (admitted-from-none ws (t .plan .len) (t .origin) (i .from))
-      (none-join (ofSummary t) (ofCells t inv sp) (lawful-none t (i .lawful), tt)
-      (le-ltb _ _ (i .held .own), (le-ltb _ _ (i .held .over), tt)))
+      (none-join (ofSummary t) (ofCells t inv sp) (lawful-none t (i .lawful), tt) (cells-none t inv sp (i .held)))
 
   pub readable : IndexHeld ws t inv sp → (r : ℕ) → r < N (t .plan) → Readable t inv sp r
   readable i r l = record { short = i .from .admitted .short; lawful = i .lawful; held = i .held; below = l }

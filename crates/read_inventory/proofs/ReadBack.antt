@@ -1,25 +1,27 @@
 -- What a reader reads from the index is what was reckoned: the first cell says kind and start, the next one the span, and
--- each lane its mark.
+-- each lane its mark. And a cell is what is read from it.
 use mathlib.Core.Path.{_≡_, refl, sym, ap, _∙_, subst}
 use mathlib.Core.Logic.{⊎-elim}
 use mathlib.Core.Bool.{Bool, true, false, cond}
 use mathlib.Core.List.{List}
-use Prim.Native.Nat.{ℕ, _+_, _-_, _*_, _/_, _%_, _^_, _≤_, _<_}
+use Prim.Native.Nat.{ℕ, zero, suc, _+_, _-_, _*_, _/_, _%_, _^_, _≤_, _<_}
 use native.Mathlib.Nat.{add-mul, div-add-mod', mod-lt, mod-eq-of-lt, div-lt-iff-lt-mul}
 use native.Mathlib.Omega.{arith}
-use lib.Arith.{digits-div, digits-mod}
+use lib.Arith.{digits-div, digits-mod, digits-lt}
 use lib.Dec.{leb}
 use lib.ListN.{getD}
 use lib.Pow.{pow-pos}
 use borrow.Author.Tests.{lt-ltb, le-ltb, lt-leb, leb-false}
 use Rattle.rank_sel.specs.Outcome.{answer}
 use Rattle.rank_sel.proofs.Numbers.{lt-or-le}
+use Rattle.rank_sel.proofs.Outcome.{answer-is, not-refused}
 use Rattle.spacing.specs.Spacing.{L, M, S}
 use Rattle.spacing.specs.declared.Parameters.{Parameters}
 use Rattle.inventory.specs.Index.{entriesOf, stride, ranksOf, mark, lane, packed, startOf, spanOf, kindOf, entryOf, spillStart, summaryOf}
 use Rattle.inventory.specs.Lanes.{laneOf}
 use Rattle.inventory.specs.Shape.{nearBy, fromSpan, shapeOf}
 use Rattle.inventory.specs.declared.entry.Entry.{Entry}
+use Rattle.inventory.specs.declared.shape.Shape.{Shape}
 use Rattle.inventory.specs.declared.shape.SpanType.{SpanType}
 use Rattle.inventory.specs.declared.shape.SpanType.the-variants.{U16, U32, U64}
 use Rattle.inventory.specs.declared.summary.Summary.{Summary}
@@ -29,7 +31,7 @@ use Rattle.inventory.proofs.Index.{spillStart-more, spillStart-mono}
 use Rattle.inventory.proofs.Placed.{own-first, own-second, own-cell, spill-cell, Placed}
 use Rattle.inventory.proofs.Ranks.{entry-below, ranks-most}
 use Rattle.inventory.proofs.Unpack.{pack-lane}
-use Rattle.read_inventory.specs.Read.{tagged, startBy, cellAt, kindAt, startAt, spanAt, quantumAt, shapeAt, start, own, over, placeAt, numberAt, spanTooSmall, markAt, markNumber, residual, isU64, markOfRank, hintAt}
+use Rattle.read_inventory.specs.Read.{tagged, startBy, cellAt, kindAt, startAt, spanAt, quantumAt, shapeAt, start, own, over, placeBy, placeAt, numberAt, spanTooSmall, markAt, markNumber, residual, isU64, markOfRank, hintAt}
 
 -- ---- the first cell
 tag-back : (k : SpanType) (s : ℕ) → s < 2 ^ 62 → tagged ((s + shapeOf k s .tag) / 2 ^ 62) ≡ k
@@ -238,3 +240,48 @@ module _ (pos : ℕ → ℕ) (p : Parameters) (g : Rising pos p) (spaced : S p �
       hint-read s l =
           let n : e * 2 ^ L p + s - s % 2 ^ q ≡ e * 2 ^ L p + s / 2 ^ q * 2 ^ q = omega (arith, div-add-mod' s (2 ^ q)) in
           rw (rank-read s l, n)
+
+-- ---- and back: the cells, by what is read from them
+-- a first cell is the start and the tag of the kind that it says
+cell-back : (d c s : ℕ) → c / 2 ^ 62 ≡ d → c < 2 ^ 64 → startBy (tagged d) c + shapeOf (tagged d) s .tag ≡ c
+cell-back zero c s e h = omega arith
+cell-back (suc zero) c s e h = omega arith
+cell-back (suc (suc zero)) c s e h = omega arith
+cell-back (suc (suc (suc d))) c s e h = omega arith
+
+pub first-back : (t : Summary) (inv : List ℕ) (e s : ℕ) → cellAt t inv e 0 < 2 ^ 64
+    → startAt t inv e + shapeOf (kindAt t inv e) s .tag ≡ cellAt t inv e 0
+unfolding startAt kindAt
+first-back t inv e s h = cell-back (cellAt t inv e 0 / 2 ^ 62) (cellAt t inv e 0) s refl h
+
+-- the number of lane u in cell j of the entry's own, or of its spilled ones
+module _ (x : Shape) (m c o j u : ℕ) (l : u < x .lanes) where
+  place-own : j < 2 ^ m - x .heads → placeBy x m c o (x .from + j * x .lanes + u) ≡ own (c + j) u
+  place-own h =
+      let i : ℕ = x .from + j * x .lanes + u in
+      let n : i - x .from ≡ j * x .lanes + u = omega arith in
+      let b : i < nearBy x m = omega (arith, digits-lt {q = j} {m = 2 ^ m - x .heads} {r = u} {c = x .lanes} h l) in
+      rw (le-ltb i (x .from) (omega arith), lt-ltb i (nearBy x m) b, n, digits-div j l, digits-mod j l)
+
+  place-over : placeBy x m c o (nearBy x m + j * x .lanes + u) ≡ over (o + j) u
+  place-over =
+      let i : ℕ = nearBy x m + j * x .lanes + u in
+      let n : i - nearBy x m ≡ j * x .lanes + u = omega arith in
+      rw (le-ltb i (x .from) (omega arith), le-ltb i (nearBy x m) (omega arith), n, digits-div j l, digits-mod j l)
+
+module _ (t : Summary) (inv sp : List ℕ) (e j u n : ℕ) where
+  abbrev shape : Shape
+  shape = shapeAt t inv e
+
+  pub own-back : u < shape .lanes → j < 2 ^ M (t .plan) - shape .heads
+      → numberAt t inv sp e (placeAt t inv e (shape .from + j * shape .lanes + u)) ≡ answer n
+      → laneOf (shape .width) (getD inv (e * stride (t .plan) + 1 + shape .heads + j) 0) u ≡ n
+  unfolding placeAt numberAt
+  own-back l h d = answer-is (sym (ap (numberAt t inv sp e) (place-own shape (M (t .plan)) _ _ j u l h)) ∙ d)
+
+  pub over-back : u < shape .lanes → numberAt t inv sp e (placeAt t inv e (nearBy shape (M (t .plan)) + j * shape .lanes + u)) ≡ answer n
+      → laneOf (shape .width) (getD sp (cellAt t inv e 1 + j) 0) u ≡ n
+  unfolding placeAt numberAt
+  over-back l d =
+      answer-is (not-refused (leb (t .«spill_len») (cellAt t inv e 1 + j)) 10 _ n
+      (sym (ap (numberAt t inv sp e) (place-over shape (M (t .plan)) _ _ j u l)) ∙ d) .1)

@@ -1,25 +1,15 @@
 // What a call on an index is held to before any cell is read: the tests of record, summary, cells and ranks, in their order.
-ghost use mathlib.Core.List.{[], _++_, _∷_};
+ghost use mathlib.Core.List.{_++_};
 ghost use mathlib.Core.Path.{_≡_};
-ghost use lib.Dec.{ltb};
-ghost use Rattle.rank_sel.specs.Outcome.{numberOf, testBy, tested};
+ghost use Rattle.rank_sel.specs.Outcome.{testBy, tested};
 ghost use Rattle.spacing.specs.Spacing.{N};
 ghost use Rattle.read_inventory.specs.Tests.{ofIndex, ofRank, ofRanks};
 use bit_record::test_record;
 use inventory::Summary;
+use inventory::test_lent;
 use inventory::test_summary;
 use rank_sel::Refusal;
 use rank_sel::Tested;
-
-// Refusals 6 and 7: fewer cells are lent than the summary counts.
-fn test_lent(lent: u64, count: u64, refusal: Refusal) -> Tested
-    ensures { λ r. ⌜ tested r ≡ testBy ((ltb lent count, numberOf refusal) ∷ []) ⌝ }
-{
-    if lent < count {
-        return Tested::Refused(refusal);
-    }
-    Tested::Passed
-}
 
 // 1, 14, 2, 9, 6, 7: what every reader is held to.
 pub fn test_index(words: &[u64], summary: Summary, inventory: &[u64], spill: &[u64]) -> Tested

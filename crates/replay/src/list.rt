@@ -8,9 +8,9 @@ use crate::tally::saturating_add;
 use edge_index::Choice;
 use edge_index::Polarity;
 use edge_index_c::choice_at;
-use edge_index_c::cut;
 use edge_index_c::is_known;
-use edge_index_c::polarity_at;
+use inventory::cut;
+use inventory::polarity_at;
 
 const END: u64 = u64::MAX;
 

@@ -4,10 +4,11 @@ use borrow.Author.Tests.{lt-ltb, le-ltb}
 use borrow.Author.Needs.{needs}
 use Rattle.bit_record.specs.declared.Polarity.{Polarity}
 use Rattle.spacing.specs.declared.Choice.{Choice}
+use Rattle.inventory.specs.Numbers.{polarityAt}
 use Rattle.inventory.specs.declared.summary.Summary.{Summary}
 use Rattle.build_inventory.specs.Build.{checkOf}
 use Rattle.edge_index_c.specs.Calls.{checkC, verdictOf}
-use Rattle.edge_index_c.specs.Codes.{polarityAt, choiceAt}
+use Rattle.edge_index_c.specs.Codes.{choiceAt}
 use Rattle.edge_index_c.proofs.Returns.{ap2, is-known, is-unknown, returned-as}
 use Rattle.edge_index_c.proofs.edge_index_check.Statement.{statement}
 use Rattle.edge_index_c.proofs.edge_index_check.Tie as tie

@@ -7,10 +7,12 @@ use Rattle.find_edge_cases.proofs.run_cases.Statement.{statement}
 use Rattle.find_edge_cases.proofs.run_cases.Tie as tie
 
 abbrev Inv-loop : tie.InvT-loop
-Inv-loop text₀ words₀ inventory₀ spill₀ from₀ text words inventory spill from = (from ≤ length text₀) × (length text ≡ length text₀) × (length words ≡ length words₀) × (length inventory ≡ length inventory₀) × (length spill ≡ length spill₀)
+Inv-loop text₀ words₀ inventory₀ spill₀ image₀ from₀ text words inventory spill image from =
+    (from ≤ length text₀) × (length text ≡ length text₀) × (length words ≡ length words₀) × (length inventory ≡ length inventory₀)
+    × (length spill ≡ length spill₀) × (length image ≡ length image₀)
 
 abbrev μ-loop : tie.MeasureT-loop
-μ-loop text₀ words₀ inventory₀ spill₀ from₀ text words inventory spill from = length text₀ - from
+μ-loop text₀ words₀ inventory₀ spill₀ image₀ from₀ text words inventory spill image from = length text₀ - from
 
 loop-holds : tie.Need-loop-holds Inv-loop μ-loop
 loop-holds c = search needs
@@ -42,6 +44,9 @@ same-length-3 c = search needs
 same-length-4 : tie.Need-same-length-4 Inv-loop μ-loop
 same-length-4 c = search needs
 
+same-length-5 : tie.Need-same-length-5 Inv-loop μ-loop
+same-length-5 c = search needs
+
 returns : tie.Need-returns Inv-loop μ-loop
 returns c = search needs
 
@@ -54,9 +59,6 @@ loop-less c = search needs
 loop-again : tie.Need-loop-again Inv-loop μ-loop
 loop-again c = search needs
 
-same-length-5 : tie.Need-same-length-5 Inv-loop μ-loop
-same-length-5 c = search needs
-
 same-length-6 : tie.Need-same-length-6 Inv-loop μ-loop
 same-length-6 c = search needs
 
@@ -65,6 +67,12 @@ same-length-7 c = search needs
 
 same-length-8 : tie.Need-same-length-8 Inv-loop μ-loop
 same-length-8 c = search needs
+
+same-length-9 : tie.Need-same-length-9 Inv-loop μ-loop
+same-length-9 c = search needs
+
+same-length-10 : tie.Need-same-length-10 Inv-loop μ-loop
+same-length-10 c = search needs
 
 returns-2 : tie.Need-returns-2 Inv-loop μ-loop
 returns-2 c = search needs
@@ -85,12 +93,14 @@ run-cases-spec =
     same-length-2
     same-length-3
     same-length-4
+    same-length-5
     returns
     add-from
     loop-less
     loop-again
-    same-length-5
     same-length-6
     same-length-7
     same-length-8
+    same-length-9
+    same-length-10
     returns-2)

@@ -5,11 +5,12 @@ use Prim.Native.Nat.{ℕ, _+_, _-_, _*_, _≤_}
 use native.Mathlib.Nat.{zero-mul}
 use native.Mathlib.Omega.{arith}
 use lib.ListN.{take}
+use Rattle.rank_sel.proofs.Lists.{same-yes, same-no}
 use Rattle.inventory.specs.Index.{stream}
 use Rattle.inventory.proofs.Lanes.{turn-more}
 use Rattle.build_inventory.specs.Positions.{posIn}
 use Rattle.build_inventory.specs.Stream.{AtMark}
-use Rattle.build_inventory.proofs.Comparing.{same-yes, same-no, same-none, same-more, same-stop}
+use Rattle.build_inventory.proofs.Comparing.{same-none, same-more, same-stop}
 use Rattle.build_inventory.proofs.Positions.{streamable}
 use Rattle.build_inventory.proofs.Stream.{few-all}
 use Rattle.build_inventory.proofs.index.same_cells.Statement.{statement}

@@ -8,8 +8,8 @@ use Rattle.rank_sel.specs.declared.Tested.the-variants.{Passed}
 use Rattle.rank_sel.proofs.Outcome.{Tells, passed-none, stops, goes-on}
 use Rattle.bit_record.specs.Record.{ofRecordFrom}
 use Rattle.bit_record.proofs.Counted.{admitted-from}
-use Rattle.inventory.specs.Lawful.{ofSummary}
-use Rattle.read_inventory.specs.Tests.{inventoryTooShort, spillTooShort, ofCells, ofIndex}
+use Rattle.inventory.specs.Lawful.{ofSummary, inventoryTooShort, spillTooShort, ofCells}
+use Rattle.read_inventory.specs.Tests.{ofIndex}
 use Rattle.read_inventory.proofs.tests.test_index.Statement.{statement}
 use Rattle.read_inventory.proofs.tests.test_index.Tie as tie
 

@@ -1,0 +1,5 @@
+pub mod Bytes
+pub mod Put
+pub mod Formed
+pub mod RoundTrip
+pub mod Outcomes
