@@ -8,7 +8,7 @@ use crate::list::List;
 use crate::model::{self, Answer, Built, Choice, ONES, Summary};
 use crate::random::Random;
 use std::collections::BTreeMap;
-use std::fmt::Debug;
+use std::fmt::{Debug, Display, Formatter};
 use std::time::Instant;
 
 /// The two bits of the tag.
@@ -16,34 +16,49 @@ const TAG: u64 = 3 << 62;
 
 /// Everything a call may take; damaged in place.
 #[derive(Clone)]
-struct Input {
-    words: Vec<u64>,
-    len: u64,
-    origin: u64,
-    polarity: u32,
-    choice: Choice,
-    summary: Summary,
-    inventory: Vec<u64>,
-    spill: Vec<u64>,
+pub struct Input {
+    pub words: Vec<u64>,
+    pub len: u64,
+    pub origin: u64,
+    pub polarity: u32,
+    pub choice: Choice,
+    pub summary: Summary,
+    pub inventory: Vec<u64>,
+    pub spill: Vec<u64>,
+}
+
+impl Display for Input {
+    fn fmt(&self, f: &mut Formatter) -> std::fmt::Result {
+        let Input { words, len, origin, polarity, choice, summary, inventory, spill } = self;
+        let case = Case { words, len: *len, polarity: *polarity, choice: *choice };
+        writeln!(f, "{case}, origin {origin}\n  {summary:?}")?;
+        writeln!(f, "  inventory of {}: {}", inventory.len(), first(inventory))?;
+        write!(f, "  spill of {}: {}", spill.len(), first(spill))
+    }
+}
+
+/// The first cells, to print.
+pub fn first(cells: &[u64]) -> String {
+    cells.iter().take(12).map(|c| format!("{c:#x}")).collect::<Vec<_>>().join(", ")
 }
 
 /// After this many differences no more are printed.
 const MOST_PRINTED: u64 = 20;
 
 #[derive(Default)]
-struct Tally {
-    calls: u64,
-    differences: u64,
+pub struct Tally {
+    pub calls: u64,
+    pub differences: u64,
     /// For each call, how often it answered and how often each refusal was said.
     outcomes: BTreeMap<&'static str, BTreeMap<u32, u64>>,
 }
 
 impl Tally {
     /// Whether they are.
-    fn equal<T: PartialEq + Debug>(
+    pub fn equal<T: PartialEq + Debug>(
         &mut self,
         call: &'static str,
-        input: &Input,
+        input: &impl Display,
         ours: Answer<T>,
         model: Answer<T>,
     ) -> bool {
@@ -54,17 +69,20 @@ impl Tally {
         if !same {
             self.differences += 1;
             if self.differences <= MOST_PRINTED {
-                let Input { words, len, origin, polarity, choice, summary, inventory, spill } = input;
-                let case = Case { words, len: *len, polarity: *polarity, choice: *choice };
-                let first =
-                    |cells: &[u64]| cells.iter().take(12).map(|c| format!("{c:#x}")).collect::<Vec<_>>().join(", ");
                 println!("DIFFERENCE: {call}: ours {:.300}, model {:.300}", format!("{ours:?}"), format!("{model:?}"));
-                println!("  {case}, origin {origin}\n  {summary:?}");
-                println!("  inventory of {}: {}", inventory.len(), first(inventory));
-                println!("  spill of {}: {}", spill.len(), first(spill));
+                println!("  {input}");
             }
         }
         same
+    }
+
+    /// How each call came out; the number of differences.
+    pub fn print(&self) -> u64 {
+        for (call, outcomes) in &self.outcomes {
+            println!("  {call}: {}", said(outcomes));
+        }
+        println!("differences: {}", self.differences);
+        self.differences
     }
 }
 
@@ -107,22 +125,23 @@ pub fn run(calls: u64) -> u64 {
     let (good, reads, seconds) = (bases.len(), tally.calls - others - lists, started.elapsed().as_secs_f64());
     println!("damage: {good} indexes, {rounds} damaged copies, {reads} calls of jump, hint, store, dwell and check,");
     println!("  {others} of count, plan, size and build, {lists} lists, {seconds:.1} s; how each call came out:");
-    for (call, outcomes) in &tally.outcomes {
-        println!("  {call}: {}", said(outcomes));
-    }
-    println!("differences: {}", tally.differences);
-    tally.differences
+    tally.print()
 }
 
-/// Good indexes to damage, with room past the counts: by the model, which compare holds against the Rust.
-fn bases(random: &Random) -> Vec<Input> {
+/// A good index, with room past the counts: by the model, which compare holds against the Rust.
+pub fn base(random: &Random, words: Vec<u64>, len: u64, polarity: u32, choice: Choice) -> Input {
+    let built = model::built(&words, len, 0, polarity, &choice, usize::MAX, usize::MAX).expect("a lawful choice");
+    let (mut inventory, mut spill) = (built.inventory, built.spill);
+    inventory.extend((0..random.below(4)).map(|_| random.next()));
+    spill.extend((0..random.below(4)).map(|_| random.next()));
+    Input { words, len, origin: 0, polarity, choice, summary: built.summary, inventory, spill }
+}
+
+/// Good indexes to damage.
+pub fn bases(random: &Random) -> Vec<Input> {
     let mut all = Vec::new();
     let mut add = |random: &Random, words: Vec<u64>, len: u64, polarity: u32, choice: Choice| {
-        let built = model::built(&words, len, 0, polarity, &choice, usize::MAX, usize::MAX).expect("a lawful choice");
-        let (mut inventory, mut spill) = (built.inventory, built.spill);
-        inventory.extend((0..random.below(4)).map(|_| random.next()));
-        spill.extend((0..random.below(4)).map(|_| random.next()));
-        all.push(Input { words, len, origin: 0, polarity, choice, summary: built.summary, inventory, spill });
+        all.push(base(random, words, len, polarity, choice));
     };
     for choice in [default(), power(1, 0), power(0, 3), fixed(1, 1), fixed(2, 3), span(5, 2), overhead(100.0, 3)] {
         for polarity in [ONES, 1] {
@@ -166,7 +185,7 @@ fn renumber(random: &Random, input: &mut Input) {
 
 /// Summary and cells that no build wrote, but that obey the rules of refusal 9: random tags, U64 entries among them,
 /// with starts, second cells and offsets that often lead to an answer.
-fn foreign(random: &Random, input: &mut Input) {
+pub fn foreign(random: &Random, input: &mut Input) {
     let (l, m) = (random.below(8), random.below(5));
     let n = random.below(input.len.min(2000) + 1);
     let step = (1 << m) + 1;

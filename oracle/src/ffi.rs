@@ -56,6 +56,15 @@ mod c {
             inventory: *const u64, inventory_len: usize, spill: *const u64, spill_len: usize,
             ranks: *const u64, ranks_len: usize, places: *mut u64, places_len: usize, words_read: *mut u64,
         ) -> u32;
+        pub fn edge_index_write_image(
+            summary: *const Summary,
+            inventory: *const u64, inventory_len: usize, spill: *const u64, spill_len: usize,
+            bytes: *mut u8, bytes_len: usize, written: *mut u64,
+        ) -> u32;
+        pub fn edge_index_read_image(
+            bytes: *const u8, bytes_len: usize,
+            inventory: *mut u64, inventory_len: usize, spill: *mut u64, spill_len: usize, summary: *mut Summary,
+        ) -> u32;
         pub fn edge_index_select_in_word(word: u64, rank: u64, position: *mut u64) -> u32;
     }
 }
@@ -216,6 +225,30 @@ impl Index<'_> {
         };
         answer(code, [words_read]).map(|[words_read]| words_read)
     }
+}
+
+/// Write image: its byte length; it is at the start of the bytes.
+pub fn write_image(summary: &Summary, inventory: &[u64], spill: &[u64], bytes: &mut [u8]) -> Result<u64, u32> {
+    let mut written = SENTINEL;
+    let code = unsafe {
+        c::edge_index_write_image(
+            summary, inventory.as_ptr(), inventory.len(), spill.as_ptr(), spill.len(),
+            bytes.as_mut_ptr(), bytes.len(), &mut written,
+        )
+    };
+    answer(code, [written]).map(|[written]| written)
+}
+
+/// Read image: the summary; the cells are at the start of inventory and spill.
+pub fn read_image(bytes: &[u8], inventory: &mut [u64], spill: &mut [u64]) -> Result<Summary, u32> {
+    let mut summary = Summary::from([SENTINEL; 9]);
+    let code = unsafe {
+        c::edge_index_read_image(
+            bytes.as_ptr(), bytes.len(),
+            inventory.as_mut_ptr(), inventory.len(), spill.as_mut_ptr(), spill.len(), &mut summary,
+        )
+    };
+    answer(code, summary.into()).map(Summary::from)
 }
 
 pub fn select_in_word(word: u64, rank: u64) -> Result<u64, u32> {

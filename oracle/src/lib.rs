@@ -6,6 +6,7 @@ pub mod compare;
 pub mod damage;
 #[rustfmt::skip] // laid out as the header is
 pub mod ffi;
+pub mod images;
 pub mod list;
 pub mod long;
 pub mod model;

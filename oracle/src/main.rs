@@ -1,8 +1,8 @@
-use oracle::{compare, damage, long, replay, sources};
+use oracle::{compare, damage, images, long, replay, sources};
 use std::process::ExitCode;
 use std::time::Instant;
 
-const USAGE: &str = "oracle compare [--sources DIR] [--quick] | damage [CALLS] | replay OUT";
+const USAGE: &str = "oracle compare [--sources DIR] [--quick] | damage [CALLS] | images [COUNT] | replay OUT";
 
 fn main() -> ExitCode {
     let args: Vec<String> = std::env::args().skip(1).collect();
@@ -47,6 +47,11 @@ fn run(args: &[&str]) -> Result<u64, String> {
             sources::announce();
             let calls = calls.first().map_or(Ok(3_000_000), |n| n.parse().map_err(|_| USAGE.to_string()))?;
             Ok(damage::run(calls))
+        }
+        ["images", count @ ..] if count.len() <= 1 => {
+            sources::announce();
+            let count = count.first().map_or(Ok(600_000), |n| n.parse().map_err(|_| USAGE.to_string()))?;
+            Ok(images::run(count))
         }
         ["replay", out] => {
             sources::announce();

@@ -1,6 +1,6 @@
 //! Document 01 as a program: plain whole numbers (u128, i128), no care for speed, each step under the sentence it
 //! follows. Written from the document alone, not from the Rust and not from the library that it judges. The list is
-//! document 02's W-201, the origin its W-202.
+//! document 02's W-201, the origin its W-202, the image its W-203.
 
 /// A call's answer, or the number of its refusal in document 01's table.
 pub type Answer<T> = Result<T, u32>;
@@ -111,15 +111,21 @@ fn seek(words: &[u64], len: u128, polarity: u32, mark: u128, between: u128) -> O
     None
 }
 
-/// Refusals 1, 14 and 2: "`len` over 2^62 - 1"; "origin plus `len` over 2^62 - 1 as whole numbers, right after 1";
-/// "fewer than ceil(`len` / 64) words". "count, plan and size never say 14": to them the origin is 0.
-fn record_refusal(words: &[u64], len: u64, origin: u64) -> Answer<()> {
+/// Refusals 1 and 14: "`len` over 2^62 - 1"; "origin plus `len` over 2^62 - 1 as whole numbers, right after 1". "count,
+/// plan and size never say 14": to them the origin is 0.
+fn samples_refusal(len: u64, origin: u64) -> Answer<()> {
     if len as u128 > pow2(62) - 1 {
         return Err(1);
     }
     if origin as u128 + len as u128 > pow2(62) - 1 {
         return Err(14);
     }
+    Ok(())
+}
+
+/// Refusals 1, 14 and 2: "fewer than ceil(`len` / 64) words".
+fn record_refusal(words: &[u64], len: u64, origin: u64) -> Answer<()> {
+    samples_refusal(len, origin)?;
     if (words.len() as u128) < (len as u128).div_ceil(64) {
         return Err(2);
     }
@@ -336,12 +342,7 @@ pub fn built(
     spill_len: usize,
 ) -> Answer<Built> {
     let (summary, found) = sized(words, len, origin, polarity, choice)?;
-    if (inv_len as u64) < summary.inventory {
-        return Err(6);
-    }
-    if (spill_len as u64) < summary.spill {
-        return Err(7);
-    }
+    cells_refusal(&summary, inv_len, spill_len)?;
     // "the build writes the zeros": every cell within the counts that nothing below sets.
     let mut inventory = vec![0; summary.inventory as usize];
     let mut spill = vec![0; summary.spill as usize];
@@ -406,6 +407,31 @@ pub fn same(built: &Built, summary: &Summary, inventory: &[u64], spill: &[u64]) 
         && spill[..built.spill.len()] == built.spill[..]
 }
 
+// --------------------------------------------------------------------------- a summary and cells lent
+
+/// Refusal 9: "summary: N > `len`, L > 63, M > 53, S or inventory count not by the rules".
+fn rules_refusal(s: &Summary) -> Answer<()> {
+    if s.n > s.len || s.l > 63 || s.m > 53 {
+        return Err(9);
+    }
+    let (n, l, m) = (s.n as u128, s.l as u128, s.m as u128);
+    if s.s as u128 != s_rule(l, m) || s.inventory as u128 != inventory_count(n, l, m) {
+        return Err(9);
+    }
+    Ok(())
+}
+
+/// Refusals 6 and 7: "inventory shorter than its count", "spill shorter than its count".
+fn cells_refusal(s: &Summary, inv_len: usize, spill_len: usize) -> Answer<()> {
+    if (inv_len as u64) < s.inventory {
+        return Err(6);
+    }
+    if (spill_len as u64) < s.spill {
+        return Err(7);
+    }
+    Ok(())
+}
+
 // ------------------------------------------------------------------- jump, hint, store, dwell and list
 
 /// What they take: "words, summary and cells; the summary's `len` and counts are the ones tested".
@@ -433,21 +459,8 @@ impl Index<'_> {
         let s = self.summary;
         polarity_code(s.polarity)?;
         record_refusal(self.words, s.len, s.origin)?;
-        // "summary: N > `len`, L > 63, M > 53, S or inventory count not by the rules"
-        if s.n > s.len || s.l > 63 || s.m > 53 {
-            return Err(9);
-        }
-        let (n, l, m) = (s.n as u128, s.l as u128, s.m as u128);
-        if s.s as u128 != s_rule(l, m) || s.inventory as u128 != inventory_count(n, l, m) {
-            return Err(9);
-        }
-        // "inventory shorter than its count", "spill shorter than its count"
-        if (self.inventory.len() as u64) < s.inventory {
-            return Err(6);
-        }
-        if (self.spill.len() as u64) < s.spill {
-            return Err(7);
-        }
+        rules_refusal(s)?;
+        cells_refusal(s, self.inventory.len(), self.spill.len())?;
         // "rank not below N"
         if ranks.iter().any(|&r| r >= s.n) { Err(8) } else { Ok(()) }
     }
@@ -625,4 +638,55 @@ impl Index<'_> {
         }
         Ok((found, total as u64))
     }
+}
+
+// ------------------------------------------------------------------------------------------------ the image
+
+/// What writing tests before the cells: "1, 14, 9"; an image has no words, so no 2.
+fn summary_refusal(s: &Summary) -> Answer<()> {
+    polarity_code(s.polarity)?;
+    samples_refusal(s.len, s.origin)?;
+    rules_refusal(s)
+}
+
+/// "The image is u64 fields, lowest byte first: polarity (0 ones, 1 zeros), `len`, N, origin, L, M, S, inventory count,
+/// inventory byte offset (88), spill count, spill byte offset (88 + 8 × inventory count); then inventory, then spill,
+/// then the end". The cells are those counted.
+fn image(s: &Summary, inventory: &[u64], spill: &[u64]) -> Vec<u8> {
+    let offset = 88 + 8 * inventory.len() as u64;
+    let fields = [s.polarity, s.len, s.n, s.origin, s.l, s.m, s.s, s.inventory, 88, s.spill, offset];
+    fields.iter().chain(inventory).chain(spill).flat_map(|number| number.to_le_bytes()).collect()
+}
+
+/// What writing leaves in a place of so many bytes; it "answers its byte length". "16, too small a place for the image,
+/// last in writing, after 1, 14, 9, 6 and 7".
+pub fn write_image(s: &Summary, inventory: &[u64], spill: &[u64], place: usize) -> Answer<Vec<u8>> {
+    summary_refusal(s)?;
+    cells_refusal(s, inventory.len(), spill.len())?;
+    let image = image(s, &inventory[..s.inventory as usize], &spill[..s.spill as usize]);
+    if place < image.len() { Err(16) } else { Ok(image) }
+}
+
+/// What reading leaves in places of the given lengths. "15, a header or byte length against these rules, first in
+/// reading, before 6 and 7".
+pub fn read_image(bytes: &[u8], inv_len: usize, spill_len: usize) -> Answer<Built> {
+    let index = imaged(bytes).ok_or(15u32)?;
+    cells_refusal(&index.summary, inv_len, spill_len)?;
+    Ok(index)
+}
+
+/// "Reading accepts just the images that writing can produce from a summary free of 1, 14 and 9": summary and cells are
+/// taken as the fields name them, and writing them must give these bytes. That tells of the offsets and of the end.
+fn imaged(bytes: &[u8]) -> Option<Built> {
+    let numbers: Vec<u64> = bytes.chunks_exact(8).map(|c| u64::from_le_bytes(c.try_into().unwrap())).collect();
+    let &[polarity, len, n, origin, l, m, s, inventory, _, spill, _, ref cells @ ..] = &numbers[..] else {
+        return None;
+    };
+    let summary = Summary { polarity, len, n, origin, l, m, s, inventory, spill };
+    summary_refusal(&summary).ok()?;
+    // Cells that are not there are in no image.
+    let (inventory, rest) = cells.split_at_checked(inventory as usize)?;
+    let spill = rest.get(..spill as usize)?;
+    let same = image(&summary, inventory, spill) == bytes;
+    same.then(|| Built { summary, inventory: inventory.to_vec(), spill: spill.to_vec() })
 }

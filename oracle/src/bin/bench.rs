@@ -1,7 +1,9 @@
 //! Our library against the sux-rs Rust: one process, the same inputs, the default choice, both release builds without
-//! bmi2, best of several runs. Ratios are ours / Rust, so below 1 is faster; check's is to our own build.
+//! bmi2, best of several runs. Ratios are ours / Rust, so below 1 is faster; check's is to our own build. Images, which
+//! the Rust has not, against memcpy of the same bytes: medians.
 
-use oracle::ffi::{Index, Record};
+use oracle::ffi::{self, Index, Record};
+use oracle::model::{Choice, Summary};
 use oracle::random::Random;
 use oracle::{cases, model, sources};
 use std::hint::black_box;
@@ -12,8 +14,8 @@ use sux::rank_sel::{SelectAdapt, SelectZeroAdapt};
 use sux::traits::BitVecOps;
 use sux::traits::rank_sel::{AddNumBits, Select, SelectZero};
 
-const USAGE: &str =
-    "bench [--small] [--huge] [--list] [--runs N] | bench --ours build|check|random|rising|list LOG2 HALVINGS";
+const USAGE: &str = "bench [--small] [--huge] [--list] [--image] [--runs N] | \
+                     bench --ours build|check|random|rising|list|write|read LOG2 HALVINGS";
 const QUERIES: u64 = 1 << 20;
 /// Ranks in the lists of one run.
 const LISTED: u64 = 40 * 4096;
@@ -48,13 +50,14 @@ fn main() -> ExitCode {
     {
         return ours(call, log2, halvings);
     }
-    let (mut sizes, mut huge, mut calls, mut runs) = (vec![20, 26, 30], false, true, 6);
+    let (mut sizes, mut huge, mut list, mut image, mut runs) = (vec![20, 26, 30], false, false, false, 6);
     let mut args = args.into_iter();
     while let Some(arg) = args.next() {
         match (arg.as_str(), &mut args) {
             ("--small", _) => sizes = vec![20, 26],
             ("--huge", _) => huge = true,
-            ("--list", _) => calls = false,
+            ("--list", _) => list = true,
+            ("--image", _) => image = true,
             ("--runs", rest) => match rest.next().and_then(|n| n.parse().ok()) {
                 Some(n) => runs = n,
                 None => return usage(),
@@ -63,13 +66,26 @@ fn main() -> ExitCode {
         }
     }
     sources::announce();
-    println!("\nBest of {runs} runs, at 2^20 bits of {}; {QUERIES} selects a run, {LISTED} ranks in lists.", 8 * runs);
-    println!("Each cell: ratio (ours / Rust); for check: (check / our build); for lists: (ours / the Rust's selects).");
-    if calls {
+    // All tables, or those named.
+    let all = !list && !image;
+    if all || list {
+        legend(runs);
+    }
+    if all {
         Table { columns: CALLS, measure, rows: Vec::new() }.print(&sizes, huge, runs);
     }
-    Table { columns: LISTS, measure: measure_lists, rows: Vec::new() }.print(&sizes, huge, runs);
+    if all || list {
+        Table { columns: LISTS, measure: measure_lists, rows: Vec::new() }.print(&sizes, huge, runs);
+    }
+    if all || image {
+        images(runs);
+    }
     ExitCode::SUCCESS
+}
+
+fn legend(runs: u32) {
+    println!("\nBest of {runs} runs, at 2^20 bits of {}; {QUERIES} selects a run, {LISTED} ranks in lists.", 8 * runs);
+    println!("Each cell: ratio (ours / Rust); for check: (check / our build); for lists: (ours / the Rust's selects).");
 }
 
 fn usage() -> ExitCode {
@@ -103,8 +119,8 @@ fn lists(n: u64, count: u64, spread: bool, random: &Random) -> Vec<u64> {
 }
 
 /// Cells to build in, touched before; the Rust allocates while it builds.
-fn lent(record: &Record) -> (Vec<u64>, Vec<u64>) {
-    let (inventory_len, spill_len) = record.size(&cases::default()).expect("a lawful record");
+fn lent(record: &Record, choice: &Choice) -> (Vec<u64>, Vec<u64>) {
+    let (inventory_len, spill_len) = record.size(choice).expect("a lawful record");
     (vec![1; inventory_len as usize], vec![1; spill_len as usize])
 }
 
@@ -114,7 +130,7 @@ fn ours(call: &str, log2: u32, halvings: u32) -> ExitCode {
     let words = sparse(log2, halvings, model::ONES, &random);
     let record = Record { words: &words, len: 1 << log2, polarity: model::ONES };
     let choice = cases::default();
-    let (mut inventory, mut spill) = lent(&record);
+    let (mut inventory, mut spill) = lent(&record, &choice);
     let summary = record.build(ORIGIN, &choice, &mut inventory, &mut spill).unwrap();
     let n = record.count().unwrap();
     let ranks = match call {
@@ -123,6 +139,8 @@ fn ours(call: &str, log2: u32, halvings: u32) -> ExitCode {
         _ => rising(n),
     };
     let mut places = vec![0; LISTED as usize];
+    let mut bytes = vec![1; image_len(&summary)];
+    ffi::write_image(&summary, &inventory, &spill, &mut bytes).unwrap();
     let started = Instant::now();
     let mut times = 0;
     while started.elapsed().as_secs() < 2 {
@@ -130,6 +148,8 @@ fn ours(call: &str, log2: u32, halvings: u32) -> ExitCode {
         match call {
             "build" => drop(black_box(record.build(ORIGIN, &choice, &mut inventory, &mut spill))),
             "check" => drop(black_box(record.check(ORIGIN, &choice, &summary, &inventory, &spill))),
+            "write" => drop(black_box(ffi::write_image(&summary, &inventory, &spill, &mut bytes))),
+            "read" => drop(black_box(ffi::read_image(&bytes, &mut inventory, &mut spill))),
             "random" | "rising" | "list" => {
                 let index = Index { words: &words, summary: &summary, inventory: &inventory, spill: &spill };
                 black_box(if call == "list" {
@@ -205,7 +225,7 @@ fn pair((ours, theirs): (f64, f64), ranks: Option<u64>) -> String {
 fn measure(words: &[u64], len: u64, polarity: u32, random: &Random, runs: u32) -> [(f64, f64); 5] {
     let record = Record { words, len, polarity };
     let choice = cases::default();
-    let (mut inventory, mut spill) = lent(&record);
+    let (mut inventory, mut spill) = lent(&record, &choice);
     let n = record.count().expect("a lawful record");
     let random_ranks: Vec<u64> = (0..QUERIES).map(|_| random.below(n)).collect();
     let rising_ranks = rising(n);
@@ -252,8 +272,9 @@ fn selects(best: &mut (f64, f64), swap: bool, ranks: &[u64], index: &Index, thei
 
 fn measure_lists(words: &[u64], len: u64, polarity: u32, random: &Random, runs: u32) -> [(f64, f64); 4] {
     let record = Record { words, len, polarity };
-    let (mut inventory, mut spill) = lent(&record);
-    let summary = record.build(ORIGIN, &cases::default(), &mut inventory, &mut spill).expect("a lawful record");
+    let choice = cases::default();
+    let (mut inventory, mut spill) = lent(&record, &choice);
+    let summary = record.build(ORIGIN, &choice, &mut inventory, &mut spill).expect("a lawful record");
     let index = Index { words, summary: &summary, inventory: &inventory, spill: &spill };
     let queries = [(40, false), (40, true), (4096, false), (4096, true)]
         .map(|(count, spread)| (count as usize, lists(summary.n, count, spread, random)));
@@ -292,6 +313,106 @@ fn time_lists(
 fn answer_lists(index: &Index, count: usize, ranks: &[u64], places: &mut [u64]) -> u64 {
     let lists = ranks.chunks(count).zip(places.chunks_mut(count));
     lists.map(|(ranks, places)| index.list(ranks, places).unwrap()).sum()
+}
+
+/// The images of records of 2^26 bits, of one megabyte to nineteen; the last is mostly spill.
+fn images(runs: u32) {
+    // Microseconds each: more runs for a steady median.
+    let runs = 16 * runs;
+    println!("\nImages: median of {runs} runs; memcpy copies the same parts from and to the same places.");
+    println!("Each cell: ratio (ours / memcpy, our speed); below 2 is more than half the speed of memcpy.\n");
+    println!("| bits | selected | choice | bytes | write | read |\n|---|---|---|---|---|---|");
+    for (halvings, choice, name) in [
+        (1, cases::default(), "default"),
+        (1, cases::span(1024, 3), "span 1,024 maximum 3"),
+        (1, cases::span(256, 3), "span 256 maximum 3"),
+        (4, cases::span(512, 0), "span 512 maximum 0"),
+        (1, cases::fixed(16, 6), "fixed L 16 M 6"),
+    ] {
+        let words = sparse(26, halvings, model::ONES, &Random::new(5));
+        let mut imaged = Imaged::new(&Record { words: &words, len: 1 << 26, polarity: model::ONES }, &choice);
+        let len = imaged.image.len();
+        let write = imaged.medians(runs, [Imaged::write, |imaged| imaged.copy(true)]);
+        let read = imaged.medians(runs, [Imaged::read, |imaged| imaged.copy(false)]);
+        let cell = |[ours, memcpy]: [f64; 2]| {
+            let speed = len as f64 / ours / 1e9;
+            format!("{:.2} ({:.1} / {:.1} µs, {speed:.1} GB/s)", ours / memcpy, ours * 1e6, memcpy * 1e6)
+        };
+        let percent = 100.0 / (1u64 << halvings) as f64;
+        println!("| 2^26 | {percent:.3} % | {name} | {len} | {} | {} |", cell(write), cell(read));
+    }
+}
+
+fn image_len(summary: &Summary) -> usize {
+    88 + 8 * (summary.inventory + summary.spill) as usize
+}
+
+/// An image and its parts. Ours and memcpy go between the same places: where these lie can alone double memcpy's time.
+struct Imaged {
+    summary: Summary,
+    image: Vec<u8>,
+    header: [u8; 88],
+    inventory: Vec<u64>,
+    spill: Vec<u64>,
+}
+
+impl Imaged {
+    /// What is timed below changes nothing any more, so what it does is tested here, in places that hold something else.
+    fn new(record: &Record, choice: &Choice) -> Self {
+        let (mut inventory, mut spill) = lent(record, choice);
+        let summary = record.build(ORIGIN, choice, &mut inventory, &mut spill).expect("a lawful record");
+        let image = vec![1; image_len(&summary)];
+        let mut imaged = Imaged { summary, image, header: [1; 88], inventory, spill };
+        imaged.write();
+        imaged.header.copy_from_slice(&imaged.image[..88]);
+        let (image, inventory, spill) = (imaged.image.clone(), imaged.inventory.clone(), imaged.spill.clone());
+        imaged.image.fill(2);
+        imaged.copy(true);
+        assert!(imaged.image == image, "bytes differ");
+        for read in [Imaged::read, |imaged: &mut Self| imaged.copy(false)] {
+            imaged.inventory.fill(3);
+            imaged.spill.fill(3);
+            read(&mut imaged);
+            assert!(imaged.inventory == inventory && imaged.spill == spill, "cells differ");
+        }
+        imaged
+    }
+
+    fn write(&mut self) {
+        ffi::write_image(&self.summary, &self.inventory, &self.spill, &mut self.image).unwrap();
+    }
+
+    fn read(&mut self) {
+        ffi::read_image(&self.image, &mut self.inventory, &mut self.spill).unwrap();
+    }
+
+    /// The three parts by memcpy, into the image or out of it.
+    fn copy(&mut self, write: bool) {
+        let cells = |cells: &mut Vec<u64>| (cells.as_mut_ptr().cast::<u8>(), 8 * cells.len());
+        let parts = [(self.header.as_mut_ptr(), 88), cells(&mut self.inventory), cells(&mut self.spill)];
+        let mut rest = &mut self.image[..];
+        for (part, len) in parts {
+            let (there, after) = rest.split_at_mut(len);
+            let there = there.as_mut_ptr();
+            let (from, to) = if write { (part, there) } else { (there, part) };
+            unsafe { std::ptr::copy_nonoverlapping(from, to, len) };
+            rest = after;
+        }
+    }
+
+    /// Median seconds of each; they take turns in going first.
+    fn medians(&mut self, runs: u32, calls: [fn(&mut Self); 2]) -> [f64; 2] {
+        let mut times: [Vec<f64>; 2] = Default::default();
+        for run in 0..runs {
+            for which in if run % 2 == 0 { [0, 1] } else { [1, 0] } {
+                times[which].push(timed(|| calls[which](black_box(self))).0);
+            }
+        }
+        times.map(|mut times| {
+            times.sort_by(f64::total_cmp);
+            times[times.len() / 2]
+        })
+    }
 }
 
 /// Right after the build: the selects would leave it a colder cache than the build had.
