@@ -8,7 +8,7 @@ use Prim.Native.Nat.{ℕ, _^_, _≤_, _<_}
 use native.Mathlib.Omega.{arith}
 use lib.Dec.{ltb}
 use lib.ListN.{length, take, drop, length-append}
-use lib.Seq.{take-at, take-all, length-take-le}
+use lib.Seq.{take-append-le, length-take-le}
 use Rattle.rank_sel.specs.Lists.{Below}
 use Rattle.rank_sel.specs.Outcome.{answer, refused, refuseIf}
 use Rattle.rank_sel.proofs.Lists.{below-append, below-drop}
@@ -24,10 +24,6 @@ use Rattle.index_image.proofs.RoundTrip.{image-same, summary-back, inventory-re
 use Rattle.edge_index.specs.Images.{Bytes, Cells, Written, inventoryLeft, spillLeft, Restored, Images}
 use Rattle.edge_index.proofs.Determined.{sound-checked}
 use Rattle.edge_index.proofs.Promises.{promises}
-
--- a list that another begins with
-begins : (l rest : List ℕ) (n : ℕ) → length l ≡ n → take n (l ++ rest) ≡ take n l
-begins l rest n e = take-at l rest n e ∙ sym (take-all n l (omega arith))
 
 -- ---- what an answer shows, and where it comes from
 -- of writing
@@ -137,8 +133,8 @@ module _ (bs : List ℕ) (b : Bytes bs) (e : imageUnlawful bs ≡ false) where
           own = omega (arith, length-append (inventoryIn bs) (drop (t .«inventory_len») inv));
           over = omega (arith, length-append (spillIn bs) (drop (t .«spill_len») sp));
         }
-        (begins (inventoryIn bs) (drop (t .«inventory_len») inv) (t .«inventory_len») i)
-        (begins (spillIn bs) (drop (t .«spill_len») sp) (t .«spill_len») s))
+        (take-append-le (t .«inventory_len») (inventoryIn bs) (drop (t .«inventory_len») inv) (omega arith))
+        (take-append-le (t .«spill_len») (spillIn bs) (drop (t .«spill_len») sp) (omega arith)))
 
     cells-left : Cells inv sp → Cells (inventoryLeft bs inv sp) (spillLeft bs inv sp)
     cells-left c = rw (inventory-left, spill-left) (record {
