@@ -29,9 +29,9 @@ spilledBy U32 h m = ceilDiv h 2 - (2 ^ m - 1)
 spilledBy U64 h m = h - 2 ^ m
 
 abbrev pub shapeOf : SpanType → ℕ → Shape
-shapeOf U16 start = record { width = 16; lanes = 4; base = start; heads = 0; from = 0; tag = 0 }
-shapeOf U32 start = record { width = 32; lanes = 2; base = start; heads = 1; from = 0; tag = 2 ^ 63 }
-shapeOf U64 start = record { width = 64; lanes = 1; base = 0; heads = 1; from = 1; tag = 2 ^ 63 + 2 ^ 62 }
+shapeOf U16 start = record { width = 16; lanes = 4; «log2_lanes» = 2; base = start; heads = 0; from = 0; tag = 0 }
+shapeOf U32 start = record { width = 32; lanes = 2; «log2_lanes» = 1; base = start; heads = 1; from = 0; tag = 2 ^ 63 }
+shapeOf U64 start = record { width = 64; lanes = 1; «log2_lanes» = 0; base = 0; heads = 1; from = 1; tag = 2 ^ 63 + 2 ^ 62 }
 
 -- the lanes that stand in the entry's own cells, those before number `from` counted
 abbrev pub nearBy : Shape → ℕ → ℕ
@@ -40,7 +40,7 @@ nearBy s m = s .from + (2 ^ m - s .heads) * s .lanes
 -- what holds of every kind's shape: the lanes fill a cell, and are 1, 2 or 4
 pub record Shaped (s : Shape) : Type 0 where
   pub cell : s .width * s .lanes ≡ 64
-  pub lanes : 2 ^ ilog2 (s .lanes) ≡ s .lanes
+  pub lanes : 2 ^ s .«log2_lanes» ≡ s .lanes
   pub few : s .lanes ≤ 4
   pub heads : s .heads ≤ 1
   pub from : s .from ≤ 1

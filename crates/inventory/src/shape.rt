@@ -13,11 +13,13 @@ pub enum SpanType {
     U64,
 }
 
-// All in which the kinds differ: an entry's numbers are lanes of `width` bits, `lanes` to a cell, and say a mark less
-// `base`; `heads` cells stand before them, after the entry's first; the first lane is number `from`; `tag` marks the kind.
+// All in which the kinds differ: an entry's numbers are lanes of `width` bits, `lanes` or 2^`log2_lanes` to a cell, and say a
+// mark less `base`; `heads` cells stand before them, after the entry's first; the first lane is number `from`; `tag` marks the
+// kind.
 pub struct Shape {
     pub width: u64,
     pub lanes: u64,
+    pub log2_lanes: u32,
     pub base: u64,
     pub heads: u64,
     pub from: u64,
@@ -74,6 +76,7 @@ pub fn shape_of(kind: SpanType, start: u64) -> Shape
         SpanType::U16 => Shape {
             width: 16,
             lanes: 4,
+            log2_lanes: 2,
             base: start,
             heads: 0,
             from: 0,
@@ -82,6 +85,7 @@ pub fn shape_of(kind: SpanType, start: u64) -> Shape
         SpanType::U32 => Shape {
             width: 32,
             lanes: 2,
+            log2_lanes: 1,
             base: start,
             heads: 1,
             from: 0,
@@ -90,6 +94,7 @@ pub fn shape_of(kind: SpanType, start: u64) -> Shape
         SpanType::U64 => Shape {
             width: 64,
             lanes: 1,
+            log2_lanes: 0,
             base: 0,
             heads: 1,
             from: 1,

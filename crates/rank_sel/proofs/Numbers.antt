@@ -44,7 +44,7 @@ first-found t (suc n) c m l h e = go (λ a. first-found t n (suc c) m a (omega a
         let f = ih (past t c m q e l) in
         record { here = f .here; low = omega (arith, f .low); least = λ k a b. f .least k (past t c k q b a) b }
 
-lt-pow : (n : ℕ) → n < 2 ^ n
+pub lt-pow : (n : ℕ) → n < 2 ^ n
 lt-pow zero = omega arith
 lt-pow (suc n) = rw pow-suc (omega (arith, lt-pow n, pow-pos n))
 

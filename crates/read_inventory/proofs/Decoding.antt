@@ -10,7 +10,6 @@ use lib.ListN.{length, getD}
 use lib.Pow.{pow-pos, pow-mono, pow-add, shr-lt}
 use borrow.Author.Tests.{le-leb, lt-leb}
 use Rattle.rank_sel.specs.Outcome.{Outcome, answer, refused, refuseIf, andThen}
-use Rattle.rank_sel.proofs.Numbers.{ilog2-unique}
 use Rattle.rank_sel.proofs.Outcome.{answer-is, not-refused, refused-holds, then-then}
 use Rattle.spacing.specs.Spacing.{L, M, S}
 use Rattle.inventory.specs.Index.{stride, inventoryLenOf}
@@ -188,8 +187,8 @@ module _ {t : Summary} {inv sp : List ℕ} {r c sub : ℕ} (w : Quartered t inv 
     shape = refl;
     place =
         simp sub-zero at
-        (spot-own (shapeOf U16 (getD inv c 0)) (M (t .plan)) (sub / 2 ^ S (t .plan)) (shaped U16 (getD inv c 0)) 2 (2 ^ M (t .plan))
-        (sym (ilog2-unique 4 2 (omega arith) (omega arith))) refl (omega arith) (omega (arith, quarter-near)) _ refl);
+        (spot-own (shapeOf U16 (getD inv c 0)) (M (t .plan)) (sub / 2 ^ S (t .plan)) (shaped U16 (getD inv c 0)) (2 ^ M (t .plan))
+        refl (omega arith) (omega (arith, quarter-near)) _ refl);
     lent = entry-lent t inv sp r (w .readable);
   }
 

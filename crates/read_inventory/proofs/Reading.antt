@@ -9,7 +9,6 @@ use lib.ListN.{length, getD}
 use lib.Bits.{bitAnd}
 use lib.Pow.{pow-pos}
 use borrow.Author.Tests.{le-ltb, lt-ltb, le-leb, lt-leb}
-use Rattle.rank_sel.specs.Numbers.{ilog2}
 use Rattle.rank_sel.specs.Outcome.{answer, refused}
 use Rattle.select_in_word.proofs.Tail.{mask-shr, and-tail}
 use Rattle.spacing.specs.Spacing.{M, S, maxLog2Words}
@@ -63,33 +62,30 @@ module _ (s : Shape) (m i : ℕ) (h : Shaped s) where
   pub spot-start : i < s .from → SpotFor s m i Start
   spot-start l = record { place = λ c o. simp (lt-ltb i (s .from) l); within = tt }
 
-  -- k is the logarithm of the lanes in a cell, and p a power of two, as they were reckoned
-  module _ (k p : ℕ) (ek : k ≡ ilog2 (s .lanes)) (ep : p ≡ 2 ^ m) (a : s .from ≤ i) where
-    lanes-are : 2 ^ k ≡ s .lanes
-    lanes-are = ap (λ (n : ℕ). 2 ^ n) ek ∙ h .lanes
-
+  -- p is a power of two as it was reckoned
+  module _ (p : ℕ) (ep : p ≡ 2 ^ m) (a : s .from ≤ i) where
     near-is : s .from + (p - s .heads) * s .lanes ≡ nearBy s m
     near-is = ap (λ (z : ℕ). s .from + (z - s .heads) * s .lanes) ep
 
-    pub spot-own : i < s .from + (p - s .heads) * s .lanes → (j : ℕ) → j ≡ (i - s .from) % 2 ^ k
-        → SpotFor s m i (Own ((i - s .from) / 2 ^ k) j)
+    pub spot-own : i < s .from + (p - s .heads) * s .lanes → (j : ℕ) → j ≡ (i - s .from) % 2 ^ s .«log2_lanes»
+        → SpotFor s m i (Own ((i - s .from) / 2 ^ s .«log2_lanes») j)
     spot-own b j ej =
         let l : i < nearBy s m = rw near-is at b in
         record {
-          place = λ c o. simp (le-ltb i (s .from) a, lt-ltb i (nearBy s m) l, ej, lanes-are);
-          within = rw lanes-are (
+          place = λ c o. simp (le-ltb i (s .from) a, lt-ltb i (nearBy s m) l, ej, h .lanes);
+          within = rw (h .lanes) (
             omega (arith, div-lt-iff-lt-mul {k = s .lanes} {x = i - s .from} {y = 2 ^ m - s .heads} (lanes-pos h) .1 (omega arith)),
-            omega (arith, mod-lt (i - s .from) (lanes-pos h), rw lanes-are at ej),
+            omega (arith, mod-lt (i - s .from) (lanes-pos h), rw (h .lanes) at ej),
           );
         }
 
-    pub spot-over : s .from + (p - s .heads) * s .lanes ≤ i → (j : ℕ) → j ≡ (i - (s .from + (p - s .heads) * s .lanes)) % 2 ^ k
-        → SpotFor s m i (Over ((i - (s .from + (p - s .heads) * s .lanes)) / 2 ^ k) j)
+    pub spot-over : s .from + (p - s .heads) * s .lanes ≤ i → (j : ℕ) → j ≡ (i - (s .from + (p - s .heads) * s .lanes)) % 2 ^ s .«log2_lanes»
+        → SpotFor s m i (Over ((i - (s .from + (p - s .heads) * s .lanes)) / 2 ^ s .«log2_lanes») j)
     spot-over b j ej =
         let l : nearBy s m ≤ i = rw near-is at b in
         record {
-          place = λ c o. simp (le-ltb i (s .from) a, le-ltb i (nearBy s m) l, ej, lanes-are, near-is);
-          within = omega (arith, mod-lt (i - (s .from + (p - s .heads) * s .lanes)) (lanes-pos h), rw lanes-are at ej);
+          place = λ c o. simp (le-ltb i (s .from) a, le-ltb i (nearBy s m) l, ej, h .lanes, near-is);
+          within = omega (arith, mod-lt (i - (s .from + (p - s .heads) * s .lanes)) (lanes-pos h), rw (h .lanes) at ej);
         }
 
 -- ---- an entry's first cell and its spacing

@@ -16,7 +16,6 @@ use inventory::Summary;
 use inventory::entry_len;
 use inventory::log2_ones_per_sub32;
 use inventory::shape_of;
-use rank_sel::ilog2;
 use rank_sel::pow2;
 use rank_sel::saturating_sub;
 use select_in_word::low_bits;
@@ -155,7 +154,7 @@ fn place_of(shape: Shape, log2_words_per_subinventory: u32, i: u64) -> Spot
     if i < shape.from {
         return Spot::Start;
     }
-    let log2_lanes = ilog2(shape.lanes);
+    let log2_lanes = shape.log2_lanes;
     let near = shape.from + (pow2(log2_words_per_subinventory) - shape.heads) * shape.lanes;
     if i < near {
         let n = i - shape.from;
