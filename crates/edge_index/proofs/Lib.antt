@@ -6,4 +6,5 @@ pub mod Determined
 pub mod Refusals
 pub mod Padding
 pub mod Images
+pub mod Spans
 pub mod Table

@@ -14,6 +14,7 @@ use Rattle.inventory.specs.Lanes.{laneOf, pack, tabulate}
 use Rattle.inventory.specs.Lawful.{unlawful}
 use Rattle.inventory.specs.Numbers.{polarityAt, summaryAt, numbersOf}
 use Rattle.inventory.specs.Shape.{log2OnesPerSub32}
+use Rattle.inventory.specs.Spans.{takenOff}
 use Rattle.build_inventory.specs.Build.{buildFrom, buildOf, checkOf, fitted, samePlan, sameSummary}
 use Rattle.build_inventory.specs.Compare.{sameIndex}
 use Rattle.read_inventory.specs.Jump.{dwellAt, dwellOf, hintOf, hintSample, sampleOf, selectOf, storeOf, subinventoryOf}
@@ -32,7 +33,7 @@ unfolding rank seek select bit selectInWord bitAt selected numSelected countOf
     laneOf pack sum tabulate
     cellAt markOfRank dwellAt dwellOf kindAt markAt markNumber numberAt placeAt positionOf quantumAt residual sampleOf selectOf shapeAt
     spanAt startAt unlawful
-    log2OnesPerSub32 buildFrom buildOf checkOf fitted samePlan sameSummary sameIndex sameList
+    takenOff log2OnesPerSub32 buildFrom buildOf checkOf fitted samePlan sameSummary sameIndex sameList
 table-agrees = (
   refl,
   (
@@ -121,7 +122,7 @@ table-agrees = (
                                                                                       refl,
                                                                                       (
                                                                                         refl,
-                                                                                        (refl, (refl, (refl, (refl, (refl, tt))))),
+                                                                                        (refl, (refl, (refl, (refl, (refl, (refl, tt)))))),
                                                                                       ),
                                                                                     ),
                                                                                   ),

@@ -4,4 +4,5 @@ pub mod Promises
 pub mod Refusals
 pub mod Padding
 pub mod Images
+pub mod Spans
 pub mod Table

@@ -17,6 +17,7 @@ use Rattle.spacing.specs.declared.Choice.{Choice}
 use Rattle.spacing.specs.declared.Choice.the-variants.{Default, Span, Power, Overhead}
 use Rattle.spacing.specs.declared.Parameters.{Parameters}
 use Rattle.inventory.specs.Shape.{fromSpan, log2OnesPerSub32}
+use Rattle.inventory.specs.Spans.{takenOff}
 use Rattle.inventory.specs.declared.shape.SpanType.the-variants.{U16, U32, U64}
 use Rattle.inventory.specs.declared.summary.Summary.{Summary}
 use Rattle.build_inventory.specs.Build.{checkOf}
@@ -138,6 +139,8 @@ table =
     ∷ line (fromSpan 65536 ∷ fromSpan 65537 ∷ fromSpan (2 ^ 32) ∷ fromSpan (2 ^ 32 + 1) ∷ []) (U16 ∷ U32 ∷ U32 ∷ U64 ∷ [])
     -- * U32 spacing for S 8: span 65,537 gives 6, 131,072 gives 5; S 1 gives 0
     ∷ line (log2OnesPerSub32 65537 8 ∷ log2OnesPerSub32 131072 8 ∷ log2OnesPerSub32 65537 1 ∷ []) (6 ∷ 5 ∷ 0 ∷ [])
+    -- W-204, the ends of the first, the second and the last case: 65,537 to 131,071, to 262,143; 2^61 to 2^62 - 1
+    ∷ line (map takenOff (65537 ∷ 131071 ∷ 131072 ∷ 262143 ∷ 2 ^ 61 ∷ (2 ^ 62 - 1) ∷ [])) (2 ∷ 2 ∷ 3 ∷ 3 ∷ 47 ∷ 47 ∷ [])
     -- A's ones by jump, and its dwell
     ∷ line (map (selectOf A onesA cellsA []) (0 ∷ 1 ∷ 2 ∷ 3 ∷ [])) (answer 1 ∷ answer 4 ∷ answer 6 ∷ answer 9 ∷ [])
     ∷ line (dwellOf A onesA cellsA [] 0 3) (answer 8)

@@ -1,5 +1,6 @@
 pub mod Lanes
 pub mod Shapes
+pub mod Doublings
 pub mod Marks
 pub mod Index
 pub mod Ranks

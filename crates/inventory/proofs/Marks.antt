@@ -28,12 +28,12 @@ use Rattle.inventory.proofs.Shapes.{shaped}
 
 -- ---- kinds
 -- a kind has room for the spans that it serves
-abbrev Room : SpanType → ℕ → Type 0
+abbrev pub Room : SpanType → ℕ → Type 0
 Room U16 span = span ≤ 2 ^ 16
 Room U32 span = span ≤ 2 ^ 32
 Room U64 span = 0 ≤ span
 
-room-of : (span : ℕ) → Room (fromSpan span) span
+pub room-of : (span : ℕ) → Room (fromSpan span) span
 room-of span = go (leb span 65536) refl
   where
     wide : (t : Bool) → leb span (2 ^ 32) ≡ t → Room (cond t U32 U64) span

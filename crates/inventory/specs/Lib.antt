@@ -1,3 +1,4 @@
+pub mod Spans
 pub mod Shape
 pub mod Lanes
 pub mod Index

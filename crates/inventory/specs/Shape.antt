@@ -1,9 +1,10 @@
 -- The kinds of entries and all in which they differ. Document 01, "The build" and steps 3 to 6.
 use mathlib.Core.Bool.{cond}
 use mathlib.Core.Path.{_≡_}
-use Prim.Native.Nat.{ℕ, _+_, _-_, _*_, _/_, _^_, _≤_}
+use Prim.Native.Nat.{ℕ, _+_, _-_, _*_, _^_, _≤_}
 use lib.Dec.{leb}
-use Rattle.rank_sel.specs.Numbers.{ceilDiv, ilog2}
+use Rattle.rank_sel.specs.Numbers.{ceilDiv}
+use Rattle.inventory.specs.Spans.{takenOff}
 use Rattle.inventory.specs.declared.shape.SpanType.{SpanType}
 use Rattle.inventory.specs.declared.shape.SpanType.the-variants.{U16, U32, U64}
 use Rattle.inventory.specs.declared.shape.Shape.{Shape}
@@ -12,9 +13,9 @@ use Rattle.inventory.specs.declared.shape.Shape.{Shape}
 abbrev pub fromSpan : ℕ → SpanType
 fromSpan span = cond (leb span 65536) U16 (cond (leb span (2 ^ 32)) U32 U64)
 
--- q of a U32 entry, by the span
+-- q of a U32 entry: S less the number that the list of spans takes off, or 0
 unfoldable pub log2OnesPerSub32 : ℕ → ℕ → ℕ
-log2OnesPerSub32 span s = s - (ilog2 (span / 32768) + 1)
+log2OnesPerSub32 span s = s - takenOff span
 
 -- q: neighbouring marks are 2^q ranks apart
 abbrev pub log2Quantum : SpanType → ℕ → ℕ → ℕ

@@ -2,6 +2,7 @@
 mod entry;
 mod numbers;
 mod shape;
+mod spans;
 mod summary;
 
 pub use entry::Entry;

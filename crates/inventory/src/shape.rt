@@ -2,7 +2,7 @@
 ghost use mathlib.Core.Path.{_≡_};
 ghost use Prim.Native.Nat.{_^_, _≤_, _<_};
 ghost use Rattle.inventory.specs.Shape.{fromSpan, log2OnesPerSub32, log2Quantum, shapeOf, spilledBy};
-use rank_sel::ilog2;
+use crate::spans::taken_off;
 use rank_sel::pow2;
 use rank_sel::saturating_sub;
 
@@ -43,7 +43,7 @@ pub fn from_span(span: u64) -> SpanType
 pub fn log2_ones_per_sub32(span: u64, log2_ones_per_sub16: u32) -> u32
     ensures { λ r. ⌜ (r ≡ log2OnesPerSub32 span «log2_ones_per_sub16») × (r ≤ «log2_ones_per_sub16») ⌝ }
 {
-    saturating_sub(log2_ones_per_sub16 as u64, ilog2(span >> 15) as u64 + 1) as u32
+    saturating_sub(log2_ones_per_sub16 as u64, taken_off(span)) as u32
 }
 
 // The spacing of an entry's marks.

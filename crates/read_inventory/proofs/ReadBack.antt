@@ -50,7 +50,7 @@ low-back U32 s h = omega arith
 low-back U64 s h = omega arith
 
 -- a U32 span is not too small
-span-fits : (span : ℕ) → spanTooSmall (fromSpan span) span ≡ false
+pub span-fits : (span : ℕ) → spanTooSmall (fromSpan span) span ≡ false
 span-fits span = go (leb span 65536) refl (leb span (2 ^ 32))
   where
     go : (a : Bool) → leb span 65536 ≡ a → (b : Bool) → spanTooSmall (cond a U16 (cond b U32 U64)) span ≡ false

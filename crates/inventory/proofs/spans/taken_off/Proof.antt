@@ -1,0 +1,57 @@
+-- At each line of the list the tests tell that it is the span's (`in-case`); at the last return they tell that none is.
+use borrow.Author.Needs.{needs}
+use Rattle.inventory.proofs.Doublings.{in-case, past-cases}
+use Rattle.inventory.proofs.spans.taken_off.Statement.{statement}
+use Rattle.inventory.proofs.spans.taken_off.Tie as tie
+
+pub taken-off-spec : {M : Type 1} → statement M
+taken-off-spec =
+    tie.close
+    (tie.spec
+    (λ c. in-case (search needs))
+    (λ c. in-case (search needs))
+    (λ c. in-case (search needs))
+    (λ c. in-case (search needs))
+    (λ c. in-case (search needs))
+    (λ c. in-case (search needs))
+    (λ c. in-case (search needs))
+    (λ c. in-case (search needs))
+    (λ c. in-case (search needs))
+    (λ c. in-case (search needs))
+    (λ c. in-case (search needs))
+    (λ c. in-case (search needs))
+    (λ c. in-case (search needs))
+    (λ c. in-case (search needs))
+    (λ c. in-case (search needs))
+    (λ c. in-case (search needs))
+    (λ c. in-case (search needs))
+    (λ c. in-case (search needs))
+    (λ c. in-case (search needs))
+    (λ c. in-case (search needs))
+    (λ c. in-case (search needs))
+    (λ c. in-case (search needs))
+    (λ c. in-case (search needs))
+    (λ c. in-case (search needs))
+    (λ c. in-case (search needs))
+    (λ c. in-case (search needs))
+    (λ c. in-case (search needs))
+    (λ c. in-case (search needs))
+    (λ c. in-case (search needs))
+    (λ c. in-case (search needs))
+    (λ c. in-case (search needs))
+    (λ c. in-case (search needs))
+    (λ c. in-case (search needs))
+    (λ c. in-case (search needs))
+    (λ c. in-case (search needs))
+    (λ c. in-case (search needs))
+    (λ c. in-case (search needs))
+    (λ c. in-case (search needs))
+    (λ c. in-case (search needs))
+    (λ c. in-case (search needs))
+    (λ c. in-case (search needs))
+    (λ c. in-case (search needs))
+    (λ c. in-case (search needs))
+    (λ c. in-case (search needs))
+    (λ c. in-case (search needs))
+    (λ c. in-case (search needs))
+    (λ c. past-cases (search needs)))
