@@ -379,7 +379,7 @@ fn rank(random: &Random, n: u64) -> u64 {
     }
 }
 
-fn read_calls(tally: &mut Tally, random: &Random, input: &Input) {
+pub fn read_calls(tally: &mut Tally, random: &Random, input: &Input) {
     let Input { words, len, origin, polarity, choice, summary, inventory, spill } = input;
     let ours = ffi::Index { words, summary, inventory, spill };
     let model = model::Index { words, summary, inventory, spill };
@@ -518,7 +518,7 @@ fn damaged_lists(tally: &mut Tally, random: &Random, input: &mut Input) {
     }
 }
 
-fn list_call(tally: &mut Tally, input: &Input, list: &List) {
+pub fn list_call(tally: &mut Tally, input: &Input, list: &List) {
     let Input { words, summary, inventory, spill, .. } = input;
     let model = model::Index { words, summary, inventory, spill };
     let expected = list.expected(&model);

@@ -14,3 +14,4 @@ pub mod random;
 pub mod reference;
 pub mod replay;
 pub mod sources;
+pub mod spans;

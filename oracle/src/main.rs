@@ -1,4 +1,4 @@
-use oracle::{compare, damage, images, long, replay, sources};
+use oracle::{compare, damage, images, long, replay, sources, spans};
 use std::process::ExitCode;
 use std::time::Instant;
 
@@ -35,9 +35,10 @@ fn run(args: &[&str]) -> Result<u64, String> {
             let mut tally = compare::Tally::default();
             compare::run(&mut tally, quick);
             if quick {
-                println!("  records past 2^32 bits: not run (--quick)");
+                println!("  records past 2^24 bits: not run (--quick)");
             } else {
                 long::run(&mut tally);
+                spans::built(&mut tally);
             }
             tally.print();
             println!("{:.1} s", started.elapsed().as_secs_f64());
@@ -46,7 +47,7 @@ fn run(args: &[&str]) -> Result<u64, String> {
         ["damage", calls @ ..] if calls.len() <= 1 => {
             sources::announce();
             let calls = calls.first().map_or(Ok(3_000_000), |n| n.parse().map_err(|_| USAGE.to_string()))?;
-            Ok(damage::run(calls))
+            Ok(damage::run(calls) + spans::foreign())
         }
         ["images", count @ ..] if count.len() <= 1 => {
             sources::announce();

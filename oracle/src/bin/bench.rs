@@ -14,7 +14,7 @@ use sux::rank_sel::{SelectAdapt, SelectZeroAdapt};
 use sux::traits::BitVecOps;
 use sux::traits::rank_sel::{AddNumBits, Select, SelectZero};
 
-const USAGE: &str = "bench [--small] [--huge] [--list] [--image] [--runs N] | \
+const USAGE: &str = "bench [--small] [--huge] [--list] [--image] [--u32] [--runs N] | \
                      bench --ours build|check|random|rising|list|write|read LOG2 HALVINGS";
 const QUERIES: u64 = 1 << 20;
 /// Ranks in the lists of one run.
@@ -50,7 +50,8 @@ fn main() -> ExitCode {
     {
         return ours(call, log2, halvings);
     }
-    let (mut sizes, mut huge, mut list, mut image, mut runs) = (vec![20, 26, 30], false, false, false, 6);
+    let (mut sizes, mut huge, mut runs) = (vec![20, 26, 30], false, 6);
+    let (mut list, mut image, mut u32s) = (false, false, false);
     let mut args = args.into_iter();
     while let Some(arg) = args.next() {
         match (arg.as_str(), &mut args) {
@@ -58,6 +59,7 @@ fn main() -> ExitCode {
             ("--huge", _) => huge = true,
             ("--list", _) => list = true,
             ("--image", _) => image = true,
+            ("--u32", _) => u32s = true,
             ("--runs", rest) => match rest.next().and_then(|n| n.parse().ok()) {
                 Some(n) => runs = n,
                 None => return usage(),
@@ -67,7 +69,7 @@ fn main() -> ExitCode {
     }
     sources::announce();
     // All tables, or those named.
-    let all = !list && !image;
+    let all = !list && !image && !u32s;
     if all || list {
         legend(runs);
     }
@@ -79,6 +81,9 @@ fn main() -> ExitCode {
     }
     if all || image {
         images(runs);
+    }
+    if all || u32s {
+        wide_entries(runs);
     }
     ExitCode::SUCCESS
 }
@@ -313,6 +318,45 @@ fn time_lists(
 fn answer_lists(index: &Index, count: usize, ranks: &[u64], places: &mut [u64]) -> u64 {
     let lists = ranks.chunks(count).zip(places.chunks_mut(count));
     lists.map(|(ranks, places)| index.list(ranks, places).unwrap()).sum()
+}
+
+/// Indexes whose entries are all U32, by what their spans are about: build, and selects from the entry's cells and its spill.
+fn wide_entries(runs: u32) {
+    println!(
+        "\nU32 entries: best of {runs} runs, at 2^22 bits of {}; {QUERIES} selects a run. Each cell: ratio (ours / Rust).\n",
+        8 * runs
+    );
+    println!(
+        "| bits | selected | L, M | spans about | build | select, random | select, rising |\n|---|---|---|---|---|---|---|"
+    );
+    for (log2, halvings, l, m) in [(22, 8, 9, 3), (22, 8, 11, 3), (22, 12, 7, 3), (26, 8, 12, 3), (26, 12, 12, 3)] {
+        let random = Random::new(5);
+        let words = sparse(log2, halvings, model::ONES, &random);
+        let record = Record { words: &words, len: 1 << log2, polarity: model::ONES };
+        let choice = cases::power(l, m);
+        let (mut inventory, mut spill) = lent(&record, &choice);
+        let bits: AddNumBits<_> = BitVec::new(&words[..], 1 << log2).into();
+        let n = record.count().expect("a lawful record");
+        let queries = [(0..QUERIES).map(|_| random.below(n)).collect(), rising(n)];
+        let mut best = [(f64::INFINITY, f64::INFINITY); 3];
+        for run in 0..if log2 == 22 { 8 * runs } else { runs } {
+            let swap = run % 2 == 1;
+            let build = || record.build(ORIGIN, &choice, &mut inventory, &mut spill).unwrap();
+            let theirs = || SelectAdapt::with_inv(bits.clone(), l as usize, m as usize);
+            let (summary, structure) = both(&mut best[0], swap, build, theirs);
+            let starts = inventory[..(n >> l) as usize * ((1 << m) + 1)].iter().step_by((1 << m) + 1);
+            assert!(starts.into_iter().all(|start| start >> 62 == 2), "an entry that is not U32");
+            let index = Index { words: &words, summary: &summary, inventory: &inventory, spill: &spill };
+            let select = |rank| structure.select(rank as usize).unwrap() as u64;
+            queries.iter().zip(&mut best[1..]).for_each(|(ranks, best)| selects(best, swap, ranks, &index, select));
+        }
+        let ranks = [None, Some(QUERIES), Some(QUERIES)];
+        let cell = |(times, ranks): ((f64, f64), _)| format!("{:.2} ({})", times.0 / times.1, pair(times, ranks));
+        let cells: Vec<_> = best.into_iter().zip(ranks).map(cell).collect();
+        let percent = 100.0 / (1u64 << halvings) as f64;
+        let span = l + halvings as u64;
+        println!("| 2^{log2} | {percent:.3} % | {l}, {m} | 2^{span} | {} |", cells.join(" | "));
+    }
 }
 
 /// The images of records of 2^26 bits, of one megabyte to nineteen; the last is mostly spill.
