@@ -2,7 +2,8 @@
 ghost use mathlib.Core.Path.{_≡_};
 ghost use Rattle.inventory.specs.Spans.{takenOff};
 
-// Line by line, so that sheet and code can be laid side by side. A build's spans end in the line of 18, foreign cells' in that of 47.
+// Line by line, so that sheet and code can be laid side by side. A build's spans end in the line of 18; those of foreign cells
+// go on to the last.
 pub(crate) fn taken_off(span: u64) -> u64
     ensures { λ r. ⌜ r ≡ takenOff span ⌝ }
 {
