@@ -34,8 +34,8 @@ module _ (t : Summary) (inv : List ℕ) (e : ℕ) where
 pub spans : Spans
 unfolding log2OnesPerSub32
 spans = record {
-  logarithm = as-logarithm;
+  logarithm = λ span l h. as-logarithm span l (omega arith);
   spacing = λ span s l h. omega (arith, as-logarithm span l h);
   built = built;
-  read = λ t inv sp e i m k a. (long-enough t inv e sp i m k a, short-enough t inv e);
+  read = λ t inv sp e i m k a. (omega (arith, long-enough t inv e sp i m k a), short-enough t inv e);
 }
