@@ -1,4 +1,6 @@
 // One record: lent words of which the first `len` bits count, and a polarity that says which of these are selected.
+#![tactic(auto)]
+
 ghost use Rattle.std.specs.Prelude.{◌≡◌, ◌+◌, ◌-◌, ◌*◌, ◌/◌, ◌^◌, ◌≤◌, ◌<◌, length};
 ghost use Rattle.rank_sel.specs.Outcome.{answered, test_by, tested as tested_as};
 ghost use Rattle.select_in_word.specs.Holds.{Holds};

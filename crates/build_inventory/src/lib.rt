@@ -1,4 +1,6 @@
 // The build of an index: its size, its cells, and the check of a summary and cells that somebody hands in.
+#![tactic(auto)]
+
 ghost use Rattle.std.specs.Prelude.{◌&&◌, ◌≡◌, length};
 ghost use Rattle.rank_sel.specs.Outcome.{answer};
 ghost use Rattle.spacing.specs.Spacing.{PlanOf};

@@ -1,4 +1,6 @@
 // The public face: every entry of documents 01 and 02. What is promised of them is in specs/, proved in proofs/.
+#![tactic(auto)]
+
 pub use bit_record::{Polarity, count};
 pub use build_inventory::{Built, Checked, Sized, build, check, size};
 pub use index_image::{Opened, read_image, write_image};

@@ -1,5 +1,7 @@
 // The face for C, include/edge_index.h: numbers in, a number out, answers behind pointers. Each call reads its codes
 // and hands on to the entry that it stands for.
+#![tactic(auto)]
+
 ghost use Rattle.std.specs.Prelude.{◌≡◌, length};
 ghost use Rattle.rank_sel.specs.Outcome.{answered, number_of};
 ghost use Rattle.select_in_word.specs.Select.{select_in_word};

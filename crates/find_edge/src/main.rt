@@ -2,6 +2,8 @@
 // 2^25 samples, and what its index takes at most at the default spacing: 16,384 entries of 9 cells and the closing one, and
 // a spilled cell for each 1,024 samples; and the image of such an index, 88 bytes and its cells', with a byte more that only a
 // longer file fills. They fit a stack of 8 MB.
+#![tactic(auto)]
+
 fn main() {
     let mut words = [0u64; 524288];
     let mut inventory = [0u64; 147457];

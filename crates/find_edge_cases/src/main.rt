@@ -1,5 +1,7 @@
 // Runs find_edge on each line of the file `cases`, and prints what it writes. Error lines go to standard output here,
 // where the gate compares them. The buffers are the program's, but for the spill: one cell, so that refusal 7 comes.
+#![tactic(auto)]
+
 use edge_index::{REFUSAL_COUNT, REFUSALS};
 use find_edge_lib::{find_edge, refused};
 use libc::STDOUT_FILENO;

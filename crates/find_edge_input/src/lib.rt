@@ -1,4 +1,6 @@
 // What find_edge is given, as text and as bytes.
+#![tactic(auto)]
+
 mod number;
 mod words;
 

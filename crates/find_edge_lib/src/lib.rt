@@ -1,4 +1,6 @@
 // What the program find_edge does, on arguments and buffers that its caller lends.
+#![tactic(auto)]
+
 ghost use Rattle.std.specs.Prelude.{◌<◌};
 
 mod arguments;

@@ -1,4 +1,6 @@
 // Runs document 02's W-203 through the library: A's image written, read, cut, padded and bent; what it writes is held to stdout.
+#![tactic(auto)]
+
 use edge_index::{
     Answer, Opened, Parameters, Polarity, Refusal, Summary, read_image, refusal_number, write_image,
 };

@@ -1,4 +1,6 @@
 // What an index is: its summary, the kinds of its entries, and an entry. specs/ says which cells they make.
+#![tactic(auto)]
+
 mod entry;
 mod numbers;
 mod shape;

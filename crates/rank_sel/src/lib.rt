@@ -1,5 +1,7 @@
 // The words that every contract is written in: rank and seek over any set of positions (specs/), what a call may be
 // turned down for, and a few functions on whole numbers.
+#![tactic(auto)]
+
 ghost use Rattle.std.specs.Prelude.{◌≡◌, ◌-◌, ◌^◌, ◌<◌, max as maximum, min as minimum};
 ghost use Rattle.rank_sel.specs.Numbers.{ceil_div, ilog2 as whole_log2};
 ghost use Rattle.rank_sel.specs.Outcome.{number_of, reason_of};

@@ -1,4 +1,6 @@
 // How an index is read: jump, hint, store and dwell. Its tests and a rank's mark are for the other readers too.
+#![tactic(auto)]
+
 mod decode;
 mod jump;
 mod tests;

@@ -1,5 +1,7 @@
 // Runs document 01's "Records to try", its examples of refusals and document 02's lists and origins through the library; what it
 // writes is held to stdout.
+#![tactic(auto)]
+
 ghost use Rattle.std.specs.Prelude.{◌≡◌, length};
 
 use edge_index::{

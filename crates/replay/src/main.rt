@@ -1,5 +1,7 @@
 // Replays the Rust's answers, a list of numbers on standard input, against the library; oracle/src/replay.rs writes the
 // list and says its format. Every number, cell and position is held to the listed one, and the totals say how many were.
+#![tactic(auto)]
+
 ghost use Rattle.std.specs.Prelude.{◌<◌, length};
 
 mod answers;

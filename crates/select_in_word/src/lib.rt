@@ -1,4 +1,6 @@
 // One word: in-word select by the byte table, the same by sums over bytes, and the masks of a record's last word.
+#![tactic(auto)]
+
 ghost use Rattle.std.specs.Prelude.{cond, ◌≡◌, ℕ, suc, ◌*◌, ◌%◌, ◌^◌, ◌<◌};
 ghost use Rattle.std.specs.Int.Bits.{bit_and};
 ghost use Rattle.std.specs.Int.Count.{ones};

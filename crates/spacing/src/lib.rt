@@ -1,4 +1,6 @@
 // How far apart the marks of an index stand: from a record and a choice to L, M and S.
+#![tactic(auto)]
+
 ghost use Rattle.std.specs.Prelude.{◌≡◌, ◌≤◌};
 ghost use Rattle.spacing.specs.Spacing.{capped, chosen_plan, planned, plan_of, plan_with, rule};
 ghost use Rattle.spacing.specs.Spacing.{fixed, overhead as overhead_rule, power, span};

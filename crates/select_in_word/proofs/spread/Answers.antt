@@ -2,22 +2,18 @@
 use mathlib.Core.Path.{refl}
 use Prim.Native.Nat.{◌+◌, ◌*◌, ◌/◌, ◌^◌}
 use native.Mathlib.Omega.{arith}
-use borrow.Author.Rules.{rules}
 use lib.Bits.{bit_and, and_le_r}
 use Rattle.rank_sel.specs.Rank.{ind}
 use Rattle.select_in_word.specs.Bit.{bit}
 use Rattle.select_in_word.specs.Bytes.{byte_of}
 use Rattle.select_in_word.proofs.Table.{list, same_table}
-use Rattle.select_in_word.proofs.spread.Statement.{statement}
-use Rattle.select_in_word.proofs.spread.Tie as tie
+use Rattle.select_in_word.proofs.spread.Goals as goal
 
-mul-own : tie.Need-overflow-mul-own
-mul-own c = search rules
+pub overflow_add-result : goal.overflow_add-result
+overflow_add-result c =
+    omega (arith, and_le_r (c.args.byte * 0x0101_0101_0101_0101) 0x8040_2010_0804_0201)
 
-add-result : tie.Need-overflow-add-result
-add-result c = omega (arith, and_le_r (c.args.byte * 0x0101_0101_0101_0101) 0x8040_2010_0804_0201)
-
-returns : tie.Need-returns
+pub returns : goal.returns
 unfolding list byte_of bit
 returns c j =
     same_table
@@ -25,6 +21,3 @@ returns c j =
     (bit_and ((bit_and (b * 0x0101_0101_0101_0101) 0x8040_2010_0804_0201 + 0x7f7f_7f7f_7f7f_7f7f) / 2 ^ 7) 0x0101_0101_0101_0101))
     (λ b i. ind (bit b i)) refl
     c.args.byte j c.requires
-
-pub spread-spec : {M : Type 1} → statement M
-spread-spec = tie.close (tie.spec mul-own add-result returns)
