@@ -11,14 +11,14 @@ use select_in_word::{
     WordSeek, count_ones, low_bits, mask_tail_word, seek_in_word, seek_near, tail_mask,
 };
 
-#[derive(Drop)]
+#[derive(Clone, Copy)]
 pub enum Polarity {
     Ones,
     Zeros,
 }
 
 // What a seek finds in a record: a position, and its word.
-#[derive(Drop)]
+#[derive(Clone, Copy)]
 pub enum RecordSeek {
     At(u64, u64),
     Nowhere,

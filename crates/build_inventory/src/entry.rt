@@ -12,14 +12,14 @@ use rank_sel::{ceil_shift, max, pow2};
 use spacing::Parameters;
 
 // Where the stream of an entry's lanes stands: at lane k, whose mark is at `at`.
-#[derive(Drop)]
+#[derive(Clone, Copy)]
 pub struct Cursor {
     pub at: u64,
     pub k: u64,
 }
 
 // What the stream gives, and where it stands then.
-#[derive(Drop)]
+#[derive(Clone, Copy)]
 pub struct Step {
     pub value: u64,
     pub cursor: Cursor,

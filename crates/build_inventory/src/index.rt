@@ -87,7 +87,7 @@ pub fn fill(words: &[u64], plan: Parameters, inventory: &mut [u64], spill: &mut 
 }
 
 // Whether cells agree with the stream, and where it stands then.
-#[derive(Drop)]
+#[derive(Clone, Copy)]
 pub struct Same {
     pub same: bool,
     pub cursor: Cursor,

@@ -18,19 +18,19 @@ use rank_sel::{Answer, Refusal, Tested, reason};
 use spacing::{Choice, Parameters, Planned, plan};
 
 // The cells of the inventory and of the spill.
-#[derive(Drop)]
+#[derive(Clone, Copy)]
 pub enum Sized {
     Cells(u64, u64),
     Refused(Refusal),
 }
 
-#[derive(Drop)]
+#[derive(Clone, Copy)]
 pub enum Built {
     Summary(Summary),
     Refused(Refusal),
 }
 
-#[derive(Drop)]
+#[derive(Clone, Copy)]
 pub enum Checked {
     Yes,
     No,

@@ -4,14 +4,14 @@ ghost use Rattle.find_edge_input.specs.Number.{after_whole, all_digits, decimal_
 
 use rank_sel::saturating_sub;
 
-#[derive(Drop)]
+#[derive(Clone, Copy)]
 pub enum Parsed {
     Number(u64),
     NotANumber,
     TooLarge,
 }
 
-#[derive(Drop)]
+#[derive(Clone, Copy)]
 pub enum Decimal {
     Value(f64),
     NotANumber,

@@ -10,7 +10,7 @@ use inventory::{Summary, numbers_of, test_cells};
 use rank_sel::{Answer, Refusal, Tested, reason};
 
 // An image's summary, or what the call was turned down for.
-#[derive(Drop)]
+#[derive(Clone, Copy)]
 pub enum Opened {
     Summary(Summary),
     Refused(Refusal),

@@ -3,7 +3,7 @@ use crate::shape::Shape;
 
 // An entry: the rank of its first bit, where it starts and the next one does, its marks 2^log2_quantum ranks apart,
 // and the cells that it spills.
-#[derive(Drop)]
+#[derive(Clone, Copy)]
 pub struct Entry {
     pub first: u64,
     pub start: u64,

@@ -6,7 +6,7 @@ use crate::spans::taken_off;
 use rank_sel::{pow2, saturating_sub};
 
 // How wide an entry's numbers are.
-#[derive(Drop)]
+#[derive(Clone, Copy)]
 pub enum SpanType {
     U16,
     U32,
@@ -16,7 +16,7 @@ pub enum SpanType {
 // All in which the kinds differ: an entry's numbers are lanes of `width` bits, `lanes` or 2^`log2_lanes` to a cell, and say a
 // mark less `base`; `heads` cells stand before them, after the entry's first; the first lane is number `from`; `tag` marks the
 // kind.
-#[derive(Drop)]
+#[derive(Clone, Copy)]
 pub struct Shape {
     pub width: u64,
     pub lanes: u64,

@@ -9,7 +9,7 @@ use rank_sel::{Refusal, Tested, ceil_shift, min, pow2, saturating_sub};
 use spacing::{MAX_LOG2_WORDS_PER_SUBINVENTORY, Parameters};
 
 // What document 01 calls the summary: a plan and the two cell counts; and the sample number of bit 0, document 02's origin.
-#[derive(Drop)]
+#[derive(Clone, Copy)]
 pub struct Summary {
     pub plan: Parameters,
     pub origin: u64,

@@ -7,7 +7,7 @@ ghost use Rattle.rank_sel.specs.Numbers.{ceil_div, ilog2 as whole_log2};
 ghost use Rattle.rank_sel.specs.Outcome.{number_of, reason_of};
 
 // A case for each row of document 01, "When a call is turned down", then those of document 02.
-#[derive(Drop)]
+#[derive(Clone, Copy)]
 pub enum Refusal {
     LenTooLarge,
     TooFewWords,
@@ -50,14 +50,14 @@ pub const REFUSALS: [Refusal; REFUSAL_COUNT] = [
 ];
 
 // A number, or what the call was turned down for.
-#[derive(Drop)]
+#[derive(Clone, Copy)]
 pub enum Answer {
     Value(u64),
     Refused(Refusal),
 }
 
 // What a test found.
-#[derive(Drop)]
+#[derive(Clone, Copy)]
 pub enum Tested {
     Passed,
     Refused(Refusal),

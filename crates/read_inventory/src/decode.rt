@@ -18,7 +18,7 @@ use spacing::Parameters;
 const START_BITS: u64 = 62;
 
 // An entry, the number of its first cell, and what that cell says.
-#[derive(Drop)]
+#[derive(Clone, Copy)]
 pub(crate) struct Head {
     pub(crate) entry: u64,
     pub(crate) cell: u64,
@@ -27,14 +27,14 @@ pub(crate) struct Head {
 }
 
 // The logarithm of an entry's quantum.
-#[derive(Drop)]
+#[derive(Clone, Copy)]
 enum Quantum {
     Log2(u32),
     TooSmall,
 }
 
 // Where a number stands: a cell, counted from the first that holds lanes, and a lane.
-#[derive(Drop)]
+#[derive(Clone, Copy)]
 enum Spot {
     Start,
     Own(u64, u64),
@@ -42,14 +42,14 @@ enum Spot {
 }
 
 // A number, and whether it is spilled.
-#[derive(Drop)]
+#[derive(Clone, Copy)]
 enum Number {
     Is(u64, bool),
     Missing,
 }
 
 // The mark of a rank, the selected bits to pass from it on, and whether its number is spilled.
-#[derive(Drop)]
+#[derive(Clone, Copy)]
 pub(crate) struct Decoded {
     pub(crate) head: Head,
     pub(crate) log2_quantum: u32,
@@ -58,14 +58,14 @@ pub(crate) struct Decoded {
     pub(crate) spilled: bool,
 }
 
-#[derive(Drop)]
+#[derive(Clone, Copy)]
 pub(crate) enum Decoding {
     Mark(Decoded),
     Refused,
 }
 
 // The mark of a rank, the selected bits to pass from it on, and whether it is itself the answer.
-#[derive(Drop)]
+#[derive(Clone, Copy)]
 pub enum Marked {
     At(u64, u64, bool),
     Refused,

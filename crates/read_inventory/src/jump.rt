@@ -18,7 +18,7 @@ use rank_sel::{Answer, Refusal, Tested, ceil_shift, min, pow2, reason};
 use spacing::Parameters;
 
 // The mark of a rank and the mark's own rank, or what the call was turned down for.
-#[derive(Drop)]
+#[derive(Clone, Copy)]
 pub enum Hinted {
     Mark(u64, u64),
     Refused(Refusal),
@@ -108,7 +108,7 @@ fn spilled_at(plan: Parameters, decoded: Decoded) -> u64
 }
 
 // A part of the lent cells, as its first cell and how many they are, or what the call was turned down for.
-#[derive(Drop)]
+#[derive(Clone, Copy)]
 pub enum CellPart {
     Inventory(u64, u64),
     Spill(u64, u64),

@@ -17,7 +17,7 @@ mod byte_table;
 use byte_table::SELECT_IN_BYTE;
 use rank_sel::Refusal;
 
-#[derive(Drop)]
+#[derive(Clone, Copy)]
 pub enum InWord {
     At(u64),
     Refused(Refusal),
@@ -64,7 +64,7 @@ pub fn low_bits(word: u64, n: u64) -> u64
 }
 
 // The position sought in a word, or how many ones the word has where these are too few.
-#[derive(Drop)]
+#[derive(Clone, Copy)]
 pub enum WordSeek {
     At(u64),
     Past(u64),

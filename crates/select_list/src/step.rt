@@ -11,7 +11,7 @@ use read_inventory::{Marked, mark_of};
 use spacing::Parameters;
 
 // The last bit reached by reading, where there is any: its place, the list's rank that reached it, and its word.
-#[derive(Drop)]
+#[derive(Clone, Copy)]
 pub(crate) struct Hand {
     pub(crate) any: bool,
     pub(crate) at: u64,
@@ -20,7 +20,7 @@ pub(crate) struct Hand {
 }
 
 // Where a reading starts, how many selected bits it passes, the word there, and 1 where that had to be read.
-#[derive(Drop)]
+#[derive(Clone, Copy)]
 pub(crate) struct StartAt {
     pub(crate) from: u64,
     pub(crate) passes: u64,
@@ -29,14 +29,14 @@ pub(crate) struct StartAt {
 }
 
 // A rank's position, the words read for it, and what is in hand then.
-#[derive(Drop)]
+#[derive(Clone, Copy)]
 pub(crate) struct Advance {
     pub(crate) position: u64,
     pub(crate) words: u64,
     pub(crate) hand: Hand,
 }
 
-#[derive(Drop)]
+#[derive(Clone, Copy)]
 pub(crate) enum Advanced {
     To(Advance),
     Refused,

@@ -18,7 +18,7 @@ use wide::span_log2;
 // The most that a caller may give as M, or as the maximum of M.
 pub const MAX_LOG2_WORDS_PER_SUBINVENTORY: u32 = 53;
 
-#[derive(Drop)]
+#[derive(Clone, Copy)]
 pub enum Choice {
     Default,
     Span(u64, u32),
@@ -28,7 +28,7 @@ pub enum Choice {
 }
 
 // The summary up to S: N is `num`, L, M and S are the three logarithms, in this order.
-#[derive(Drop)]
+#[derive(Clone, Copy)]
 pub struct Parameters {
     pub polarity: Polarity,
     pub len: u64,
@@ -38,7 +38,7 @@ pub struct Parameters {
     pub log2_ones_per_sub16: u32,
 }
 
-#[derive(Drop)]
+#[derive(Clone, Copy)]
 pub enum Planned {
     Plan(Parameters),
     Refused(Refusal),

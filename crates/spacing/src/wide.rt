@@ -8,7 +8,7 @@ use rank_sel::max;
 const HALF: u64 = 0x1_0000_0000;
 
 // hi * 2^64 + lo
-#[derive(Drop)]
+#[derive(Clone, Copy)]
 struct Wide {
     hi: u64,
     lo: u64,

@@ -3,21 +3,13 @@ use mathlib.Core.Logic.{⊎_elim}
 use Prim.Native.Nat.{◌+◌, ◌-◌, ◌≤◌, ◌<◌}
 use native.Mathlib.Omega.{arith}
 use borrow.Author.Tests.{le-ltb, lt-ltb}
-use borrow.Author.Rules.{rules}
 use Rattle.rank_sel.proofs.Numbers.{lt_or_le}
-use Rattle.bit_record.proofs.is_origin_too_large.Statement.{statement}
-use Rattle.bit_record.proofs.is_origin_too_large.Tie as tie
+use Rattle.bit_record.proofs.is_origin_too_large.Goals as goal
 
-sub-result : tie.Need-overflow-sub-result
-sub-result c = search rules
-
-returns : tie.Need-returns
+pub returns : goal.returns
 returns c =
     let a = c.args in
     let n = a.origin + a.len in ⊎_elim
     (λ (h : 4611686018427387903 < n). simp (lt-ltb _ n h, lt-ltb (4611686018427387903 - a.len) a.origin (omega arith)))
     (λ (h : n ≤ 4611686018427387903). simp (le-ltb _ n h, le-ltb (4611686018427387903 - a.len) a.origin (omega (arith, c.requires))))
     (lt_or_le 4611686018427387903 n)
-
-pub is-origin-too-large-spec : {M : Type 1} → statement M
-is-origin-too-large-spec = tie.close (tie.spec sub-result returns)
