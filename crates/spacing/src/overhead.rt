@@ -2,7 +2,7 @@
 ghost use Rattle.std.specs.Prelude.{◌≡◌, ◌≤◌};
 ghost use Rattle.std.specs.Float.Ieee.{to_unsigned};
 ghost use Rattle.std.specs.Float.Ieee.Positive.{positive};
-ghost use Rattle.spacing.specs.Spacing.{max_log2_words, overhead_span};
+ghost use Rattle.spacing.specs.Spacing.{max_log2_words as largest_log2_words, overhead_span};
 
 use rank_sel::max;
 
@@ -45,7 +45,7 @@ fn saturating_f64_to_u64(x: f64) -> u64
 }
 
 pub fn target_span_from_overhead(percentage: f64, max_log2_words: u32) -> u64
-    requires { max_log2_words ≤ max_log2_words }
+    requires { max_log2_words ≤ largest_log2_words }
     ensures { result ≡ overhead_span percentage max_log2_words }
 {
     let m = 1u64 << max_log2_words;

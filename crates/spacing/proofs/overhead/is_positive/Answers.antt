@@ -1,0 +1,14 @@
+-- Above 0 it is finite where it is below the infinity (`above_zero`); what is not above 0 is not positive.
+use lib.Ieee.{of_bits, div}
+use Rattle.spacing.proofs.Floats.{above_zero, not_above_zero}
+use Rattle.spacing.proofs.overhead.is_positive.Goals as goal
+
+pub returns-then-x : goal.returns-then-x
+unfolding of_bits div
+returns-then-x c =
+    above_zero _ c.if-x.true
+
+pub returns-else-x : goal.returns-else-x
+unfolding of_bits
+returns-else-x c =
+    not_above_zero _ c.if-x.false
