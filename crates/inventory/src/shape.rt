@@ -41,6 +41,7 @@ pub fn from_span(span: u64) -> SpanType
 }
 
 // The spacing of a U32 entry's marks.
+#[tactic(auto, unfolding(crate::specs::Shape::log2_ones_per_sub32))]
 pub fn log2_ones_per_sub32(span: u64, log2_ones_per_sub16: u32) -> u32
     ensures { (result ≡ log2_ones_per_sub32 span log2_ones_per_sub16) × (result ≤ log2_ones_per_sub16) }
 {
