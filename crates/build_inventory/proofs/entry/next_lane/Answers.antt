@@ -1,0 +1,59 @@
+-- Past the marks a lane is zero. At mark k it is the mark less the base, and the next mark is found by a seek where there is one.
+use mathlib.Core.Path.{refl, sym, ap, ◌∙◌}
+use Prim.Native.Nat.{ℕ, ◌-◌}
+use native.Mathlib.Omega.{arith}
+use Rattle.inventory.proofs.Marks.{Streamable, lane_in, lane_past}
+use Rattle.build_inventory.specs.Positions.{or_end, pos_in}
+use Rattle.build_inventory.proofs.Positions.{streamable, mark_next}
+use Rattle.build_inventory.proofs.entry.next_lane.Lts.{Start}
+use Rattle.build_inventory.proofs.entry.next_lane.Reads.{Pre, Post}
+use Rattle.build_inventory.proofs.entry.next_lane.Tie.{the-claims}
+use Rattle.build_inventory.proofs.entry.next_lane.Goals as goal
+
+marks : (c : Start the-claims Pre Post) → Streamable (pos_in c.args.words.now c.args.plan) c.args.plan c.args.x
+marks c = streamable c.args.words.now c.args.plan c.requires.0 c.args.x c.requires.1
+
+pub returns-then-k-x : goal.returns-then-k-x
+returns-then-k-x c =
+    let a = c.args in
+    record {
+      gave = sym (lane_past (pos_in a.words.now a.plan) a.x a.c.k c.if-k-x.true);
+      number = refl;
+      stands = λ l. absurd (omega arith);
+    }
+
+pub overflow_sub-value : goal.overflow_sub-value
+overflow_sub-value c =
+    let l = c.if-k-x.false in
+    omega (arith, (marks c.before.before.before.before.before.before).low c.args.c.k l, c.requires.2 l)
+
+pub returns-then-next-x : goal.returns-then-next-x
+returns-then-next-x c =
+    let a = c.args in
+    let l = c.if-k-x.false in
+    let w = a.words.now in
+    record {
+      gave = ap (λ (z : ℕ). z - a.x.shape.base) (c.requires.2 l) ∙ sym (lane_in (pos_in w a.plan) a.x a.c.k l);
+      number = refl;
+      stands = λ m. absurd (omega arith);
+    }
+
+pub pow2-requires : goal.pow2-requires
+pow2-requires c =
+    (marks c.before.before.before.before.before.before.before.before).close
+
+pub returns : goal.returns
+returns c =
+    let a = c.args in
+    let r = c.requires in
+    let l = c.if-k-x.false in
+    let w = a.words.now in
+    let o = c.pow2 in
+    record {
+      gave = ap (λ (z : ℕ). z - a.x.shape.base) (r.2 l) ∙ sym (lane_in (pos_in w a.plan) a.x a.c.k l);
+      number = refl;
+      stands = λ m.
+          c.or_end-mark.ensures
+          ∙ ap (or_end a.plan) c.seek_from-place.ensures.position
+          ∙ mark_next w a.plan r.0 a.x (marks c.before.before.before.before.before.before.before.before.before.before.before) a.c.k a.c.at o.result m (r.2 l) o.ensures;
+    }

@@ -1,0 +1,127 @@
+use mathlib.Core.Path.{◌∙◌}
+use Prim.Native.Nat.{◌+◌, ◌≤◌, ◌<◌}
+use native.Mathlib.Omega.{arith}
+use lib.ListN.{length}
+use Rattle.inventory.specs.Index.{entries_of, stride}
+use Rattle.inventory.proofs.Ranks.{entry_below}
+use Rattle.build_inventory.specs.Positions.{EntryIn}
+use Rattle.build_inventory.proofs.Fill.{stand_none, stand_end, stand_last, stand_cells, stand_spill, stand_more}
+use Rattle.build_inventory.proofs.Parts.{part_fits}
+use Rattle.build_inventory.proofs.index.fill.Lts.{After-entry_at, In-loop}
+use Rattle.build_inventory.proofs.index.fill.Reads.{Pre, Post}
+use Rattle.build_inventory.proofs.index.fill.Tie.{the-claims}
+use Rattle.build_inventory.proofs.index.fill.Goals as goal
+
+-- in a turn: e is an entry's number
+below : (c : In-loop the-claims Pre Post goal.the-invariant-loop-e goal.the-decreases-loop-e) → c.loop-e.e < entries_of c.args.plan
+below c = omega (arith, c.entry_count-entries.ensures, c.loop-e-test.true)
+
+-- its cells, and those that it spills, have room
+
+module _ (c : After-entry_at the-claims Pre Post goal.the-invariant-loop-e goal.the-decreases-loop-e) where
+  room : stride c.args.plan + c.loop-e.at ≤ length c.loop-e.inventory
+  room =
+      let r = c.requires in
+      stand_cells r.cells r.spills c.loop-e.invariant (below c.before) c.entry_at-x.ensures
+
+  spill_room : c.entry_at-x.result.spilled + c.loop-e.spilled ≤ length c.loop-e.spill
+  spill_room =
+      let r = c.requires in
+      stand_spill r.cells r.spills c.loop-e.invariant (below c.before) c.entry_at-x.ensures
+
+  entry_in : EntryIn c.args.words.now c.args.plan c.entry_at-x.result
+  entry_in = record {
+    number = c.loop-e.e;
+    within = entry_below c.args.plan c.loop-e.e (below c.before);
+    is = c.entry_at-x.ensures;
+  }
+
+pub entry_count-entries-requires : goal.entry_count-entries-requires
+entry_count-entries-requires c =
+    let r = c.requires.plans in
+    (omega (arith, r.admitted.short, r.few), r.small_l)
+
+pub entry_len-cells-requires : goal.entry_len-cells-requires
+entry_len-cells-requires c =
+    c.requires.plans.small_m
+
+pub first_start-start-requires : goal.first_start-start-requires
+first_start-start-requires c =
+    c.requires.plans
+
+pub loop-e-init : goal.loop-e-init
+loop-e-init c =
+    let r = c.requires in
+    stand_none r.cells r.spills c.first_start-start.ensures
+
+pub entry_at-x-requires : goal.entry_at-x-requires
+entry_at-x-requires c =
+    (c.requires.plans, entry_below c.args.plan c.loop-e.e (below c.before), c.loop-e.invariant.reached.begins)
+
+pub offset_bounds-inventory-at : goal.offset_bounds-inventory-at
+offset_bounds-inventory-at c =
+    omega (arith, room c.before, c.loop-e.invariant.long)
+
+pub slice_bounds-write_entry-count : goal.slice_bounds-write_entry-count
+slice_bounds-write_entry-count c =
+    omega (arith, room c.before)
+
+pub slice_bounds-write_entry-start : goal.slice_bounds-write_entry-start
+slice_bounds-write_entry-start c =
+    omega (arith, room c.before)
+
+pub offset_bounds-spill-spilled : goal.offset_bounds-spill-spilled
+offset_bounds-spill-spilled c =
+    omega (arith, spill_room c.before.before, c.loop-e.invariant.spill_long, c.well_formed.1.1.1)
+
+pub slice_bounds-write_entry-count-in-loop-e : goal.slice_bounds-write_entry-count-in-loop-e
+slice_bounds-write_entry-count-in-loop-e c =
+    omega (arith, spill_room c.before.before)
+
+pub slice_bounds-write_entry-start-in-loop-e : goal.slice_bounds-write_entry-start-in-loop-e
+slice_bounds-write_entry-start-in-loop-e c =
+    omega (arith, spill_room c.before.before)
+
+pub write_entry-requires : goal.write_entry-requires
+write_entry-requires c =
+    let l = c.loop-e in (
+      c.requires.plans,
+      entry_in c.before.before.before,
+      part_fits l.inventory l.at (stride c.args.plan) (room c.before.before.before),
+      part_fits l.spill l.spilled c.entry_at-x.result.spilled (spill_room c.before.before.before),
+    )
+
+pub overflow_add-at : goal.overflow_add-at
+overflow_add-at c =
+    omega (arith, room c.before.before.before.before.before.before.before.before, c.entry_len-cells.ensures, c.loop-e.invariant.long, c.well_formed.1.1)
+
+pub overflow_add-spilled : goal.overflow_add-spilled
+overflow_add-spilled c =
+    omega (arith, spill_room c.before.before.before.before.before.before.before.before, c.loop-e.invariant.spill_long, c.well_formed.1.1.1)
+
+pub loop-e-preserved : goal.loop-e-preserved
+loop-e-preserved c =
+    let r = c.requires in
+    let w = c.write_entry in
+    stand_more r.cells r.spills c.loop-e.invariant (below c.before.before.before.before.before.before.before.before.before) c.entry_at-x.ensures
+    c.entry_len-cells.ensures w.ensures w.auto.cells w.auto.spill
+
+pub write_cell-requires : goal.write_cell-requires
+write_cell-requires c =
+    let r = c.requires in
+    stand_end r.cells r.spills c.loop-e.invariant
+
+pub shape_of-inventory : goal.shape_of-inventory
+shape_of-inventory c =
+    c.write_cell.auto.cells ∙ c.loop-e.invariant.long
+
+pub shape_of-spill : goal.shape_of-spill
+shape_of-spill c =
+    c.loop-e.invariant.spill_long
+
+pub returns : goal.returns
+returns c =
+    let r = c.requires in
+    let v = c.loop-e.invariant in
+    rw c.write_cell.ensures
+    (stand_last r.cells r.spills v (omega (arith, c.entry_count-entries.ensures, v.reached.within)))

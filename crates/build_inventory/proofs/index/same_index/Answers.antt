@@ -1,0 +1,132 @@
+use mathlib.Core.Path.{refl, sym, ◌∙◌}
+use Prim.Native.Nat.{◌+◌, ◌≤◌, ◌<◌}
+use native.Mathlib.Omega.{arith}
+use lib.ListN.{length}
+use Rattle.inventory.specs.Index.{entries_of, stride}
+use Rattle.inventory.proofs.Ranks.{entry_below}
+use Rattle.build_inventory.specs.Positions.{EntryIn}
+use Rattle.build_inventory.proofs.Comparing.{agree_none, agree_end, agree_last, agree_cells, agree_spill, agree_more, agree_stop}
+use Rattle.build_inventory.proofs.Parts.{part_fits}
+use Rattle.build_inventory.proofs.index.same_index.Lts.{After-entry_at, After-loop, In-loop}
+use Rattle.build_inventory.proofs.index.same_index.Reads.{Pre, Post}
+use Rattle.build_inventory.proofs.index.same_index.Tie.{the-claims}
+use Rattle.build_inventory.proofs.index.same_index.Goals as goal
+
+-- in a turn: e is an entry's number
+below : (c : In-loop the-claims Pre Post goal.the-invariant-loop-e goal.the-decreases-loop-e) → c.loop-e.e < entries_of c.args.plan
+below c = omega (arith, c.entry_count-count.ensures, c.loop-e-test.true)
+
+-- its cells, and those that it spills, are there
+
+module _ (c : After-entry_at the-claims Pre Post goal.the-invariant-loop-e goal.the-decreases-loop-e) where
+  room : stride c.args.plan + c.loop-e.at ≤ length c.args.inventory.now
+  room =
+      let r = c.requires in
+      agree_cells r.cells r.spills c.loop-e.invariant (below c.before) c.entry_at-x.ensures
+
+  spill_room : c.entry_at-x.result.spilled + c.loop-e.spilled ≤ length c.args.spill.now
+  spill_room =
+      let r = c.requires in
+      agree_spill r.cells r.spills c.loop-e.invariant (below c.before) c.entry_at-x.ensures
+
+  entry_in : EntryIn c.args.words.now c.args.plan c.entry_at-x.result
+  entry_in = record {
+    number = c.loop-e.e;
+    within = entry_below c.args.plan c.loop-e.e (below c.before);
+    is = c.entry_at-x.ensures;
+  }
+
+-- after the last: the closing cell is there
+end : (c : After-loop the-claims Pre Post goal.the-invariant-loop-e goal.the-decreases-loop-e) → c.loop-e.at < length c.args.inventory.now
+end c =
+    let r = c.requires in
+    agree_end r.cells r.spills c.loop-e.invariant
+
+pub entry_count-count-requires : goal.entry_count-count-requires
+entry_count-count-requires c =
+    let r = c.requires.plans in
+    (omega (arith, r.admitted.short, r.few), r.small_l)
+
+pub entry_len-cells-requires : goal.entry_len-cells-requires
+entry_len-cells-requires c =
+    c.requires.plans.small_m
+
+pub first_start-start-requires : goal.first_start-start-requires
+first_start-start-requires c =
+    c.requires.plans
+
+pub loop-e-init : goal.loop-e-init
+loop-e-init c =
+    let r = c.requires in
+    agree_none r.cells r.spills c.first_start-start.ensures
+
+pub entry_at-x-requires : goal.entry_at-x-requires
+entry_at-x-requires c =
+    (c.requires.plans, entry_below c.args.plan c.loop-e.e (below c.before), c.loop-e.invariant.reached.begins)
+
+pub offset_bounds-inventory-at : goal.offset_bounds-inventory-at
+offset_bounds-inventory-at c =
+    omega (arith, room c.before)
+
+pub slice_bounds-same_entry-count : goal.slice_bounds-same_entry-count
+slice_bounds-same_entry-count c =
+    omega (arith, room c.before)
+
+pub slice_bounds-same_entry-start : goal.slice_bounds-same_entry-start
+slice_bounds-same_entry-start c =
+    omega (arith, room c.before)
+
+pub offset_bounds-spill-spilled : goal.offset_bounds-spill-spilled
+offset_bounds-spill-spilled c =
+    omega (arith, spill_room c.before.before)
+
+pub slice_bounds-same_entry-count-in-loop-e : goal.slice_bounds-same_entry-count-in-loop-e
+slice_bounds-same_entry-count-in-loop-e c =
+    omega (arith, spill_room c.before.before)
+
+pub slice_bounds-same_entry-start-in-loop-e : goal.slice_bounds-same_entry-start-in-loop-e
+slice_bounds-same_entry-start-in-loop-e c =
+    omega (arith, spill_room c.before.before)
+
+pub same_entry-requires : goal.same_entry-requires
+same_entry-requires c =
+    let l = c.loop-e in (
+      c.requires.plans,
+      entry_in c.before.before.before,
+      part_fits c.args.inventory.now l.at (stride c.args.plan) (room c.before.before.before),
+      part_fits c.args.spill.now l.spilled c.entry_at-x.result.spilled (spill_room c.before.before.before),
+    )
+
+pub returns-then-not-same_entry : goal.returns-then-not-same_entry
+returns-then-not-same_entry c =
+    let r = c.requires in
+    agree_stop r.cells r.spills c.loop-e.invariant (below c.before.before.before.before.before.before) c.entry_at-x.ensures refl refl
+    (sym c.same_entry.ensures ∙ c.if-not-same_entry.true)
+
+pub overflow_add-at : goal.overflow_add-at
+overflow_add-at c =
+    omega (arith, room c.before.before.before.before.before, c.entry_len-cells.ensures, c.well_formed.1.1)
+
+pub overflow_add-spilled : goal.overflow_add-spilled
+overflow_add-spilled c =
+    omega (arith, spill_room c.before.before.before.before.before, c.well_formed.1.1.1)
+
+pub loop-e-preserved : goal.loop-e-preserved
+loop-e-preserved c =
+    let r = c.requires in
+    agree_more r.cells r.spills c.loop-e.invariant (below c.before.before.before.before.before.before) c.entry_at-x.ensures refl refl
+    c.entry_len-cells.ensures (sym c.same_entry.ensures ∙ c.if-not-same_entry.false)
+
+pub offset_bounds-inventory-at-2 : goal.offset_bounds-inventory-at-2
+offset_bounds-inventory-at-2 c =
+    omega (arith, end c.before)
+
+pub bounds-inventory-at : goal.bounds-inventory-at
+bounds-inventory-at c =
+    end c.before.before
+
+pub returns : goal.returns
+returns c =
+    let r = c.requires in
+    let v = c.loop-e.invariant in
+    agree_last r.cells r.spills v (omega (arith, c.entry_count-count.ensures, v.reached.within))

@@ -1,0 +1,56 @@
+-- Refused by the tests, which leaves the bytes; or passed: then the one put is the image, which has room.
+use Prim.Native.Nat.{◌+◌, ◌^◌, ◌<◌}
+use mathlib.Core.Path.{ap, ◌∙◌}
+use native.Mathlib.Omega.{arith}
+use lib.ListN.{length}
+use Rattle.inventory.specs.Numbers.{numbers_of}
+use Rattle.index_image.specs.Image.{offset_of, header_of}
+use Rattle.index_image.proofs.Outcomes.{WriteCalled, write_stopped, write_held, write_room, write_done}
+use Rattle.index_image.proofs.image.write_image.Lts.{After-test_writing, Past-After-enum_told}
+use Rattle.index_image.proofs.image.write_image.Reads.{Pre, Post}
+use Rattle.index_image.proofs.image.write_image.Tie.{the-claims}
+use Rattle.index_image.proofs.image.write_image.Goals as goal
+
+-- the tests have spoken
+
+module _ (c : After-test_writing the-claims Pre Post) where
+  called : let a = c.args in
+      WriteCalled a.summary a.inventory.now a.spill.now (length a.bytes.now) c.test_writing-tested.result
+  called = record { told = record { told = c.test_writing-tested.ensures } }
+  -- and are passed
+
+module _ (c : Past-After-enum_told the-claims Pre Post) where
+  room : let a = c.args in offset_of (a.summary.inventory_len + a.summary.spill_len) < 2 ^ 64
+  room = omega (arith, write_room (called c.before) c.in-Passed.is)
+
+pub returns-in_default : goal.returns-in_default
+returns-in_default c =
+    write_stopped (called c.before.before.before) c.reason.result c.in_default.is c.reason.ensures c.args.bytes.now
+
+pub header_of-requires : goal.header_of-requires
+unfolding numbers_of
+header_of-requires c =
+    rw c.numbers_of.ensures (omega (arith, room c.before.before.before))
+
+pub put_image-requires : goal.put_image-requires
+put_image-requires c =
+    let e = c.in-Passed.is in
+    let h = write_held (called c.before.before.before.before.before) e in
+    (write_room (called c.before.before.before.before.before) e, h.own, h.over)
+
+pub overflow_add-result : goal.overflow_add-result
+overflow_add-result c =
+    omega (arith, room c.before.before.before.before.before.before.before.before)
+
+pub overflow_mul-result : goal.overflow_mul-result
+overflow_mul-result c =
+    omega (arith, room c.before.before.before.before.before.before.before.before)
+
+pub overflow_add-result-2 : goal.overflow_add-result-2
+overflow_add-result-2 c =
+    omega (arith, room c.before.before.before.before.before.before.before.before)
+
+pub returns : goal.returns
+returns c =
+    write_done (called c.before.before.before.before.before.before.before.before.before) c.in-Passed.is c.header_of.result _ _
+    (c.header_of.ensures ∙ ap header_of c.numbers_of.ensures) c.put_image.ensures

@@ -1,0 +1,70 @@
+-- A U16 entry's numbers stand in its own cells (`quarter-in`), and its mark is the decoded one (`quarter-past`, `quarter-is`).
+-- Any other entry is decoded, and `decoded-marks` says that this is its mark.
+use mathlib.Core.Path.{sym, ◌∙◌}
+use native.Mathlib.Omega.{arith}
+use borrow.Author.Rules.{rules}
+use Rattle.read_inventory.specs.Read.{entry_of_rank}
+use Rattle.read_inventory.specs.Steps.{EntryLent}
+use Rattle.read_inventory.proofs.Decoding.{Quartered, entry_lent, quarter_in, quarter_fits, quarter_past, quarter_is, decoded_marks}
+use Rattle.read_inventory.proofs.decode.mark_of.Lts.{After-low_bits, After-plan}
+use Rattle.read_inventory.proofs.decode.mark_of.Reads.{Pre, Post}
+use Rattle.read_inventory.proofs.decode.mark_of.Tie.{the-claims}
+use Rattle.read_inventory.proofs.decode.mark_of.Goals as goal
+
+module _ (c : After-plan the-claims Pre Post) where
+  lent :
+      let a = c.args in
+      EntryLent a.summary a.inventory.now (entry_of_rank a.summary a.rank)
+  lent =
+      let a = c.args in
+      entry_lent a.summary a.inventory.now a.spill.now a.rank c.requires
+
+module _ (c : After-low_bits the-claims Pre Post) where
+  quartered :
+      let a = c.args in
+      Quartered a.summary a.inventory.now a.spill.now a.rank c.first_cell-cell.result c.low_bits-subrank.result
+  quartered =
+      record {
+        readable = c.requires;
+        cell = c.first_cell-cell.ensures;
+        kind = sym c.in-U16.is ∙ c.kind_of.ensures;
+        subrank = c.low_bits-subrank.ensures;
+      }
+
+pub first_cell-cell-requires : goal.first_cell-cell-requires
+first_cell-cell-requires c =
+    let l = lent c.before in search rules
+
+pub offset_bounds-inventory-cell : goal.offset_bounds-inventory-cell
+offset_bounds-inventory-cell c =
+    let l = lent c.before.before in search rules
+
+pub bounds-inventory-cell : goal.bounds-inventory-cell
+bounds-inventory-cell c =
+    let l = lent c.before.before.before in
+    search rules
+
+pub returns-in_default : goal.returns-in_default
+returns-in_default c =
+    c.mark_by.ensures ∙ decoded_marks _ _ _ _ _ c.decode.ensures
+
+pub overflow_add-cell : goal.overflow_add-cell
+overflow_add-cell c =
+    record { fits = omega (arith, quarter_in (quartered c.before)) }
+
+pub quarter_at-requires : goal.quarter_at-requires
+quarter_at-requires c =
+    quarter_in (quartered c.before)
+
+pub overflow_add-mark : goal.overflow_add-mark
+overflow_add-mark c =
+    record { fits = quarter_fits (quartered c.before.before) c.quarter_at.result c.quarter_at.ensures }
+
+pub returns-then-plan-mark : goal.returns-then-plan-mark
+returns-then-plan-mark c =
+    quarter_past (quartered c.before.before.before.before) c.quarter_at.result c.quarter_at.ensures c.if-plan-mark.true
+
+pub returns : goal.returns
+returns c =
+    quarter_is (quartered c.before.before.before.before.before) c.quarter_at.result c.quarter_at.ensures c.if-plan-mark.false
+    c.low_bits.result c.low_bits.ensures
