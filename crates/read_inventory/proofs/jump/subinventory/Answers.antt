@@ -31,17 +31,17 @@ unfolding subinventory_of
 returns-in-Inventory c =
     let a = c.args in
     let h = rw c.in-Inventory.is at c.subinventory_part.ensures in
-    rw (← h.0) (part_cut a.inventory.now c.in-Inventory.first c.in-Inventory.n, refl)
+    rw (← h.0) record { contents = part_cut a.inventory.now c.in-Inventory.first c.in-Inventory.n; place = refl }
 
 pub returns-in-Spill : goal.returns-in-Spill
 unfolding subinventory_of
 returns-in-Spill c =
     let a = c.args in
     let h = rw c.in-Spill.is at c.subinventory_part.ensures in
-    rw (← h.0) (part_cut a.spill.now c.in-Spill.first c.in-Spill.n, refl)
+    rw (← h.0) record { contents = part_cut a.spill.now c.in-Spill.first c.in-Spill.n; place = refl }
 
 pub returns-in-Refused : goal.returns-in-Refused
 unfolding subinventory_of
 returns-in-Refused c =
     let h = rw c.in-Refused.is at c.subinventory_part.ensures in
-    rw (← h.0) (refl, tt)
+    rw (← h.0) record { contents = refl; place = tt }

@@ -72,14 +72,14 @@ spilled_at-requires c =
 
 pub overflow_sub-summary : goal.overflow_sub-summary
 overflow_sub-summary c =
-    omega (arith, over_start (stored c.before.before.before.before.before.before.before.before) c.if1.true)
+    omega (arith, over_start (stored c.before.before.before.before.before.before.before.before) c.if-decoded.true)
 
 pub returns-then-decoded : goal.returns-then-decoded
 returns-then-decoded c =
     let s = stored c.before.before.before.before.before.before.before.before.before in (
-      store_over s c.if1.true c.spilled_at.result c.min-n.result c.spilled_at.ensures
+      store_over s c.if-decoded.true c.spilled_at.result c.min-n.result c.spilled_at.ensures
           c.min-n.ensures,
-      over_end s c.if1.true c.spilled_at.result c.min-n.result c.min-n.ensures,
+      over_end s c.if-decoded.true c.spilled_at.result c.min-n.result c.min-n.ensures,
     )
 
 pub pow2-requires : goal.pow2-requires
