@@ -11,5 +11,5 @@ use Rattle.index_image.proofs.header.header_of.Goals as goal
 pub returns : goal.returns
 unfolding header_of
 returns c =
-    let n = c.args.t1 in
+    let n = c.args.numbers in
     sym (ap (λ (z : List ℕ). z ++ (offset_of 0 ∷ get_or n 8 0 ∷ offset_of (get_or n 7 0) ∷ [])) (first_eight n (search rules)))

@@ -9,4 +9,4 @@ use Rattle.index_image.proofs.header.numbers_in.Goals as goal
 
 pub returns : goal.returns
 returns c =
-    let h = c.args.t1 in sym (ap (λ (z : List ℕ). z ++ (get_or h 9 0 ∷ [])) (first_eight h (search rules)))
+    let h = c.args.header in sym (ap (λ (z : List ℕ). z ++ (get_or h 9 0 ∷ [])) (first_eight h (search rules)))

@@ -9,6 +9,6 @@ use Rattle.index_image.proofs.image.put_image.Goals as goal
 pub returns : goal.returns
 returns c =
     let a = c.args in
-    rw (c.write_words-3.ensures, c.write_words-2.ensures, c.write_words.ensures, take_all 11 a.t2 (search rules))
-    (put_image a.t2 (take a.n a.inventory.now) (take a.m a.spill.now) a.bytes.now a.n a.m (search rules)
+    rw (c.write_words-3.ensures, c.write_words-2.ensures, c.write_words.ensures, take_all 11 a.header (search rules))
+    (put_image a.header (take a.n a.inventory.now) (take a.m a.spill.now) a.bytes.now a.n a.m (search rules)
     (length-take-le a.n a.inventory.now (omega arith)) (length-take-le a.m a.spill.now (omega arith)) (omega arith))

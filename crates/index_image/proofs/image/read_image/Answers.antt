@@ -1,4 +1,5 @@
 -- No image, or cells too few: all stays. Else the summary is the header's, and the two reads put its cells before what stood there.
+use borrow.Author.Tests.{not-true, not-false}
 use mathlib.Core.Bool.{false}
 use mathlib.Core.List.{List}
 use mathlib.Core.Path.{◌≡◌, sym, ap, ◌∙◌, subst}
@@ -32,7 +33,7 @@ module _ (c : After-is_image the-claims Pre Post) where
 
 module _ (c : Else1 the-claims Pre Post) where
   lawful : image_unlawful (bs c.before) ≡ false
-  lawful = (sym c.is_image.ensures ∙ c.if-not-is_image.false)
+  lawful = not-true _ (sym c.is_image.ensures ∙ c.if-not-is_image.false)
 
   ends : let t = summary_in (bs c.before) in length (bs c.before) ≡ offset_of (t.inventory_len + t.spill_len)
   ends = lawful_ends (bs c.before) (small c.before) (short c.before) lawful
@@ -40,15 +41,15 @@ module _ (c : Else1 the-claims Pre Post) where
 
 module _ (c : After-test_cells the-claims Pre Post) where
   called : let a = c.args in ReadCalled a.bytes.now a.inventory.now a.spill.now c.test_cells-tested.result
-  called = record { lawful = lawful c.before.before.before.before; told = record { told = rw (sym c.summary-in.ensures) c.test_cells-tested.ensures } }
+  called = record { lawful = lawful c.before.before; told = record { told = rw (sym c.summary_in-summary.ensures) c.test_cells-tested.ensures } }
   -- and suffice
 
 module _ (c : Past-After-enum_told the-claims Pre Post) where
   abbrev t : Summary
-  t = c.summary-in.result
+  t = c.summary_in-summary.result
 
   said : t ≡ summary_in (bs c.before.before.before.before)
-  said = c.summary-in.ensures
+  said = c.summary_in-summary.ensures
 
   held : let a = c.args in CellsHeld t a.inventory.now a.spill.now
   held =
@@ -56,7 +57,7 @@ module _ (c : Past-After-enum_told the-claims Pre Post) where
       subst (λ (z : Summary). CellsHeld z a.inventory.now a.spill.now) (sym said) (read_held (called c.before) c.in-Passed.is)
 
   end : length (bs c.before.before.before.before) ≡ offset_of (t.inventory_len + t.spill_len)
-  end = ends c.before.before.before.before.before ∙ ap (λ (z : Summary). offset_of (z.inventory_len + z.spill_len)) (sym said)
+  end = ends c.before.before.before ∙ ap (λ (z : Summary). offset_of (z.inventory_len + z.spill_len)) (sym said)
 
   fits : offset_of (t.inventory_len + t.spill_len) < 2 ^ 64
   fits = omega (arith, end, short c.before.before.before.before)
@@ -64,7 +65,7 @@ module _ (c : Past-After-enum_told the-claims Pre Post) where
 pub returns-then-not-is_image : goal.returns-then-not-is_image
 returns-then-not-is_image c =
     let a = c.args in
-    read_no a.bytes.now ((sym c.is_image.ensures ∙ c.if-not-is_image.true)) a.inventory.now a.spill.now
+    read_no a.bytes.now (not-false _ (sym c.is_image.ensures ∙ c.if-not-is_image.true)) a.inventory.now a.spill.now
 
 pub summary_in-summary-requires : goal.summary_in-summary-requires
 summary_in-summary-requires c =

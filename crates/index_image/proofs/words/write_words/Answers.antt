@@ -15,7 +15,7 @@ pub loop-i-preserved : goal.loop-i-preserved
 loop-i-preserved c =
     let a = c.args in
     let l = c.loop-i in
-    let e : c.put_word.new.0 ≡ put_at a.at (bytes_of (take (l.i + 1) a.cells.now)) a.bytes.now =
+    let e : c.put_word.new.bytes ≡ put_at a.at (bytes_of (take (l.i + 1) a.cells.now)) a.bytes.now =
     c.put_word.ensures
     ∙ ap (put_at (a.at + 8 * l.i) (word_bytes (get_or a.cells.now l.i 0))) l.invariant.2
     ∙ put_more a.at a.cells.now a.bytes.now l.i (omega arith) (omega arith) in
