@@ -4,56 +4,35 @@
 use edge_index::{
     Answer, Opened, Parameters, Polarity, Refusal, Summary, read_image, refusal_number, write_image,
 };
-use libc::STDOUT_FILENO;
+use std::io;
 
 // One row each: a field of the header, and the number that takes the place of A's.
-const ROWS: usize = 14;
-
-const FIELDS: [u64; ROWS] = [0, 0, 1, 2, 3, 3, 4, 5, 6, 7, 8, 9, 9, 10];
-
-const NUMBERS: [u64; ROWS] = [
-    1,
-    2,
-    0x4000_0000_0000_0000,
-    11,
-    0,
-    0x3fff_ffff_ffff_fff6,
-    0x1_0000_0001,
-    54,
-    1,
-    6,
-    96,
-    1,
-    0x2000_0000_0000_0000,
-    136,
+const ROWS: [(u64, u64); 14] = [
+    (0, 1),
+    (0, 2),
+    (1, 0x4000_0000_0000_0000),
+    (2, 11),
+    (3, 0),
+    (3, 0x3fff_ffff_ffff_fff6),
+    (4, 0x1_0000_0001),
+    (5, 54),
+    (6, 1),
+    (7, 6),
+    (8, 96),
+    (9, 1),
+    (9, 0x2000_0000_0000_0000),
+    (10, 136),
 ];
 
-fn say(text: &[u8]) {
-    io::write_all(STDOUT_FILENO, text);
+fn end_refused(rt: &impl Print, refusal: Refusal) -> io::Result<()> {
+    println!(rt; ": refused {}", refusal_number(refusal))
 }
 
-fn say_number(number: u64) {
-    io::print_decimal(STDOUT_FILENO, number);
-}
-
-fn end_refused(refusal: Refusal) {
-    say(b": refused ");
-    say_number(refusal_number(refusal));
-    say(b"\n");
-}
-
-fn say_byte(byte: u8) {
-    say(b" ");
-    io::print_hex(STDOUT_FILENO, byte as u64, 2);
-}
-
-fn end_bytes(bytes: &[u8]) {
-    let mut i: usize = 0;
-    while i < bytes.len() {
-        say_byte(bytes[i]);
-        i += 1;
+fn end_bytes(rt: &impl Print, bytes: &[u8]) -> io::Result<()> {
+    for byte in bytes {
+        print!(rt; " {byte:02x}")?;
     }
-    say(b"\n");
+    println!(rt; "")
 }
 
 // Record A, ones, power 1, 0, from sample number 100 on.
@@ -75,32 +54,31 @@ fn summary_a() -> Summary {
 }
 
 // What writing answers, and the bytes afterwards.
-fn show_write(summary: Summary, inventory: &[u64], bytes: &mut [u8]) {
+fn show_write(
+    rt: &impl Print,
+    summary: Summary,
+    inventory: &[u64],
+    bytes: &mut [u8],
+) -> io::Result<()> {
     let none = [0u64; 0];
     match write_image(summary, inventory, &none, bytes) {
-        Answer::Value(n) => {
-            say(b": ");
-            say_number(n);
-            say(b" bytes\n");
-        }
-        Answer::Refused(refusal) => end_refused(refusal),
+        Answer::Value(n) => println!(rt; ": {n} bytes")?,
+        Answer::Refused(refusal) => end_refused(rt, refusal)?,
     }
-    end_bytes(bytes);
+    end_bytes(rt, bytes)
 }
 
 // What reading into six cells answers. What was read is shown by writing it back.
-fn show_read(bytes: &[u8]) {
+fn show_read(rt: &impl Print, bytes: &[u8]) -> io::Result<()> {
     let mut inventory = [77u64; 6];
     let mut none = [0u64; 0];
     let mut place = [0xffu8; 130];
     match read_image(bytes, &mut inventory, &mut none) {
         Opened::Summary(summary) => {
-            say(b", sixth cell ");
-            say_number(inventory[5]);
-            say(b", written back");
-            show_write(summary, &inventory, &mut place)
+            print!(rt; ", sixth cell {}, written back", inventory[5])?;
+            show_write(rt, summary, &inventory, &mut place)
         }
-        Opened::Refused(refusal) => end_refused(refusal),
+        Opened::Refused(refusal) => end_refused(rt, refusal),
     }
 }
 
@@ -112,11 +90,9 @@ fn first(bytes: &[u8], n: usize) -> &[u8] {
     &bytes[..n]
 }
 
-fn show_cut(image: &[u8], n: usize) {
-    say(b"read ");
-    say_number(n as u64);
-    say(b" bytes");
-    show_read(first(image, n));
+fn show_cut(rt: &impl Print, image: &[u8], n: usize) -> io::Result<()> {
+    print!(rt; "read {n} bytes")?;
+    show_read(rt, first(image, n))
 }
 
 fn put(bytes: &mut [u8], at: usize, byte: u64) {
@@ -141,36 +117,32 @@ fn put_field(bytes: &mut [u8], field: u64, number: u64) {
     put(bytes, at + 7, number >> 56);
 }
 
-fn show_bent(image: [u8; 130], field: u64, number: u64) {
+fn show_bent(rt: &impl Print, image: [u8; 130], field: u64, number: u64) -> io::Result<()> {
     let mut bytes = image;
     put_field(&mut bytes, field, number);
-    say(b"field ");
-    say_number(field);
-    say(b" is ");
-    say_number(number);
-    show_read(first(&bytes, 128));
+    print!(rt; "field {field} is {number}")?;
+    show_read(rt, first(&bytes, 128))
 }
 
-fn show_rows(image: [u8; 130]) {
-    let mut i: usize = 0;
-    while i < ROWS {
-        show_bent(image, FIELDS[i], NUMBERS[i]);
-        i += 1;
+fn show_rows(rt: &impl Print, image: [u8; 130]) -> io::Result<()> {
+    for (field, number) in ROWS {
+        show_bent(rt, image, field, number)?;
     }
+    Ok(())
 }
 
-fn main() {
+fn main(rt: HostRuntime) -> io::Result<()> {
     let inventory = [1u64, 0x30000, 6, 0x30000, 10];
     let mut image = [0xffu8; 130];
     let mut short = [0xffu8; 127];
-    say(b"write A in 130 bytes");
-    show_write(summary_a(), &inventory, &mut image);
-    say(b"write A in 127 bytes");
-    show_write(summary_a(), &inventory, &mut short);
-    show_cut(&image, 128);
-    show_cut(&image, 127);
-    show_cut(&image, 129);
-    show_cut(&image, 87);
-    show_cut(&image, 0);
-    show_rows(image);
+    print!(rt; "write A in 130 bytes")?;
+    show_write(&rt, summary_a(), &inventory, &mut image)?;
+    print!(rt; "write A in 127 bytes")?;
+    show_write(&rt, summary_a(), &inventory, &mut short)?;
+    show_cut(&rt, &image, 128)?;
+    show_cut(&rt, &image, 127)?;
+    show_cut(&rt, &image, 129)?;
+    show_cut(&rt, &image, 87)?;
+    show_cut(&rt, &image, 0)?;
+    show_rows(&rt, image)
 }
