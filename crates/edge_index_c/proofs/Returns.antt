@@ -40,11 +40,11 @@ module _ {o : Outcome Summary} where
   summary_no e er = returned_no (ap (λ (u : Outcome Summary). and_then u (λ s. answer (numbers_of s))) e) er
 
 -- what the test of polarity and kind found
-pub is_unknown : (b : Bool) (pol kind : ℕ) → b ≡ known pol kind → not b ≡ true → known pol kind ≡ false
-is_unknown b pol kind e t = sym e ∙ not-true b t
+pub is_unknown : (b : Bool) (pol kind : ℕ) → b ≡ known pol kind → b ≡ false → known pol kind ≡ false
+is_unknown b pol kind e h = sym e ∙ h
 
-pub is_known : (b : Bool) (pol kind : ℕ) → b ≡ known pol kind → not b ≡ false → known pol kind ≡ true
-is_known b pol kind e t = sym e ∙ not-false b t
+pub is_known : (b : Bool) (pol kind : ℕ) → b ≡ known pol kind → b ≡ true → known pol kind ≡ true
+is_known b pol kind e h = sym e ∙ h
 
 module _ {ws : List ℕ} {o q : Outcome Summary} {inv₀ inv sp₀ sp : List ℕ} {b : Built} (same : q ≡ o) (w : BuiltAs ws q inv₀ inv sp₀ sp b) where
   pub built_yes : {out₀ out : List ℕ} (t : Summary) → b ≡ BuiltVariants.Summary t → out ≡ numbers_of t → BuiltC ws o inv₀ inv sp₀ sp out₀ out 0

@@ -1,0 +1,45 @@
+-- What the entry answers goes out as three numbers, and its refusal as its own.
+use mathlib.Core.Path.{◌≡◌, refl, sym, ap, ◌∙◌}
+use borrow.Author.Tests.{lt-ltb, le-ltb}
+use Rattle.rank_sel.specs.Outcome.{Outcome, answer, and_then}
+use Rattle.inventory.specs.declared.summary.Summary.{Summary}
+use Rattle.read_inventory.specs.Jump.{Part, stored, store_of}
+use Rattle.read_inventory.specs.declared.jump.CellPart.{CellPart}
+use Rattle.edge_index_c.specs.Calls.{Cells, part_numbers, subinventory_c}
+use Rattle.edge_index_c.proofs.Returns.{returned_yes, returned_no}
+use Rattle.edge_index_c.proofs.edge_index_subinventory.Lts.{After-subinventory_part}
+use Rattle.edge_index_c.proofs.edge_index_subinventory.Reads.{Pre, Post}
+use Rattle.edge_index_c.proofs.edge_index_subinventory.Tie.{the-claims}
+use Rattle.edge_index_c.proofs.edge_index_subinventory.Goals as goal
+
+module _ (c : After-subinventory_part the-claims Pre Post) where
+  -- a part as it goes out
+  abbrev numbers : CellPart → Outcome Cells
+  numbers x = and_then (stored x) (λ p. answer (part_numbers p))
+
+  told : let a = c.args in
+      numbers c.subinventory_part.result ≡ subinventory_c a.words.now a.summary.now a.inventory.now a.spill.now a.rank
+  unfolding subinventory_c
+  told =
+      let a = c.args in
+      rw (le-ltb _ _ c.if-summary-gt1.false)
+      (ap (λ (o : Outcome Part). and_then o (λ p. answer (part_numbers p)))
+      (c.subinventory_part.ensures.0
+      ∙ ap (λ (t : Summary). store_of a.words.now t a.inventory.now a.spill.now a.rank) c.summary_at.ensures))
+
+pub returns-then-summary-gt1 : goal.returns-then-summary-gt1
+unfolding subinventory_c
+returns-then-summary-gt1 c =
+    rw (lt-ltb _ _ c.if-summary-gt1.true) (record { status = refl; out = refl })
+
+pub returns-in-Inventory : goal.returns-in-Inventory
+returns-in-Inventory c =
+    returned_yes (sym (ap (numbers c.before.before) c.in-Inventory.is) ∙ told c.before.before) refl
+
+pub returns-in-Spill : goal.returns-in-Spill
+returns-in-Spill c =
+    returned_yes (sym (ap (numbers c.before.before) c.in-Spill.is) ∙ told c.before.before) refl
+
+pub returns-in-Refused : goal.returns-in-Refused
+returns-in-Refused c =
+    returned_no (sym (ap (numbers c.before.before.before) c.in-Refused.is) ∙ told c.before.before.before) c.status.ensures
