@@ -32,7 +32,7 @@ use Rattle.inventory.proofs.Shapes.{shaped}
 use Rattle.build_inventory.specs.Build.{check_of}
 use Rattle.build_inventory.specs.Positions.{pos_in, spill_len_of}
 use Rattle.build_inventory.proofs.Outcomes.{Admission, inventory_counted, spill_counted}
-use Rattle.read_inventory.specs.Read.{cell_at, shape_at, own, over, place_at, number_at, mark_at, mark_number}
+use Rattle.read_inventory.specs.Read.{cell_at, shape_at, place_at, number_at, mark_at, mark_number}
 use Rattle.read_inventory.proofs.Answers.{mark_back, hint_back}
 use Rattle.read_inventory.proofs.ReadBack.{first_back, own_back, over_back}
 use Rattle.edge_index.specs.Sound.{q_of, lanes_of, mark_rank, Sound}
@@ -148,7 +148,7 @@ module _ (ws : List ℕ) (len origin : ℕ) (pol : Polarity) (choice : Choice) (
         spill_room = rw spill_count s.spill_held;
       }
 
-  -- the converse of `checked-sound`
+  -- the converse of `checked_sound`
   pub sound_checked : check_of ws len origin pol choice t inv sp ≡ answer true
   sound_checked =
       let w = subst (λ (f : ℕ → ℕ). Placed f p inv sp) (sym pos_is) sound_placed in

@@ -1,4 +1,4 @@
--- The list is the logarithm (`as-logarithm`); a shorter span is no U32 entry's, or 10, and 62 bits hold no longer one.
+-- The list is the logarithm (`as_logarithm`); a shorter span is no U32 entry's, or 10, and 62 bits hold no longer one.
 use mathlib.Core.List.{List}
 use mathlib.Core.Path.{◌≡◌}
 use Prim.Native.Nat.{ℕ, ◌^◌, ◌≤◌, ◌<◌}

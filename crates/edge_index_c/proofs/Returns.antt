@@ -1,9 +1,8 @@
 -- How what a call leaves follows from what the entry told.
-use mathlib.Core.Bool.{Bool, true, false, not}
+use mathlib.Core.Bool.{Bool, true, false}
 use mathlib.Core.List.{List}
 use mathlib.Core.Path.{◌≡◌, sym, ap, ◌∙◌}
 use Prim.Native.Nat.{ℕ}
-use borrow.Author.Tests.{not-true, not-false}
 use Rattle.rank_sel.specs.Outcome.{Outcome, answer, refused, number_of, and_then}
 use Rattle.rank_sel.specs.declared.Refusal.{Refusal}
 use Rattle.inventory.specs.Numbers.{numbers_of}

@@ -1,5 +1,5 @@
 -- Cutting a logarithm to 32 bits alters no answer: a larger one is refusal 3 of a choice, 9 of a summary and a no of check,
--- cut or not. Proved of `choiceAt` and `summaryAt`, and of the same without the cut, in proofs/Logarithms.antt.
+-- cut or not. Proved of `choice_at` and `summary_at`, and of the same without the cut, in proofs/Logarithms.antt.
 use Rattle.std.specs.Prelude.{List, ◌≡◌, ℕ}
 use Rattle.bit_record.specs.declared.Polarity.{Polarity}
 use Rattle.spacing.specs.Spacing.{plan_of}

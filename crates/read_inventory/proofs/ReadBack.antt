@@ -31,7 +31,7 @@ use Rattle.inventory.proofs.Index.{spill_start_more, spill_start_mono}
 use Rattle.inventory.proofs.Placed.{own_first, own_second, own_cell, spill_cell, Placed}
 use Rattle.inventory.proofs.Ranks.{entry_below, ranks_most}
 use Rattle.inventory.proofs.Unpack.{pack-lane}
-use Rattle.read_inventory.specs.Read.{tagged, start_by, cell_at, kind_at, start_at, span_at, quantum_at, shape_at, start, own, over, place_by, place_at, number_at, span_too_small, mark_at, mark_number, residual, is_u64, mark_of_rank, hint_at}
+use Rattle.read_inventory.specs.Read.{tagged, start_by, cell_at, kind_at, start_at, span_at, quantum_at, shape_at, own, over, place_by, place_at, number_at, span_too_small, mark_at, mark_number, residual, is_u64, mark_of_rank, hint_at}
 
 -- ---- the first cell
 tag_back : (k : SpanType) (s : ℕ) → s < 2 ^ 62 → tagged ((s + (shape_of k s).tag) / 2 ^ 62) ≡ k

@@ -1,5 +1,5 @@
 -- What holds of every plan that is answered: the record passed the count's tests, the choice those of its rule.
-use Rattle.std.proofs.Common.{◌≡◌, ℕ, ◌-◌, ◌^◌, ◌<◌, ◌≤◌, min, max, false, List, length, refl, ◌∙◌, subst, ap₂, le_trans, arith, pow_mono, ltb-false}
+use Rattle.std.proofs.Common.{◌≡◌, ℕ, ◌-◌, ◌^◌, ◌<◌, ◌≤◌, min, max, false, List, refl, ◌∙◌, subst, ap₂, le_trans, arith, pow_mono, ltb-false}
 use native.Mathlib.Nat.{min-le_left}
 use lib.Ieee.{Float}
 use lib.Ieee.Casts.{to_unsigned-lt}

@@ -79,7 +79,7 @@ plan_for pol len num (power l maximum) = capped pol len num l maximum
 plan_for pol len num (overhead percentage maximum) = capped pol len num (span_log2 num (overhead_span percentage maximum) len) maximum
 plan_for pol len num (fixed l m) = plan_with pol len num l m
 
--- the condition of refusal 3: L over 63. A span that is a u64 gives no such L (proofs/Span.antt, `span-most`), and
+-- the condition of refusal 3: L over 63. A span that is a u64 gives no such L (proofs/Span.antt, `span_most`), and
 -- neither does an overhead, whose span is a u64 wherever 4 does not hold
 abbrev pub ones_per_inventory_too_large : ℕ → ℕ → Rule → Bool
 ones_per_inventory_too_large num len (span target maximum) = nat_lt 63 (span_log2 num target len)

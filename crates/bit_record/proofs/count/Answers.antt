@@ -16,12 +16,11 @@ use Rattle.bit_record.proofs.count.Tie.{the-claims}
 use Rattle.bit_record.proofs.count.Goals as goal
 
 -- the test has spoken
-
 module _ (c : After-test_record the-claims Pre Post) where
   told : let a = c.args in Tells (of_record a.words.now a.len) c.test_record-tested.result
   told = let a = c.args in record { told = c.test_record-tested.ensures ∙ from_zero a.words.now a.len }
-  -- it was passed
 
+-- it was passed
 module _ (c : Past-After-enum_told the-claims Pre Post) where
   held : Admitted c.args.words.now c.args.len
   held = admitted _ _ (passed_none (told c.before) c.in-Passed.is)
@@ -32,8 +31,8 @@ module _ (c : Past-After-enum_told the-claims Pre Post) where
   answers n e =
       let a = c.args in
       ap answer e ∙ passed_then (told c.before) c.in-Passed.is (answer (num_selected a.polarity a.words.now a.len))
-  -- the whole words are counted
 
+-- the whole words are counted
 module _ (c : After-count_words the-claims Pre Post) where
   whole : c.count_words-total.result ≡ rank (selected c.args.polarity c.args.words.now c.args.len)
       (64 * (c.args.len / 64))

@@ -1,5 +1,5 @@
 use mathlib.Core.Path.{subst}
-use Prim.Native.Nat.{ℕ, ◌+◌, ◌-◌}
+use Prim.Native.Nat.{ℕ, ◌+◌}
 use native.Mathlib.Omega.{arith}
 use Rattle.bit_record.specs.Record.{CountsWords}
 use Rattle.bit_record.proofs.Record.{words_none, words_more, words_most}

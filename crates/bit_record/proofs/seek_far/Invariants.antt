@@ -1,4 +1,4 @@
--- The rank at word i and what remains make the rank at `from` and k, so that a seek from there finds the same (`finds-on`).
+-- The rank at word i and what remains make the rank at `from` and k, so that a seek from there finds the same (`finds_on`).
 use mathlib.Core.Path.{◌≡◌}
 use Prim.Native.Nat.{◌+◌, ◌-◌, ◌*◌, ◌≤◌}
 use Rattle.rank_sel.specs.Rank.{rank}

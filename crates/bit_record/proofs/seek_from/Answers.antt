@@ -1,4 +1,4 @@
-use Prim.Native.Nat.{ℕ, ◌+◌, ◌-◌, ◌/◌}
+use Prim.Native.Nat.{ℕ, ◌+◌, ◌/◌}
 use native.Mathlib.Omega.{arith}
 use Rattle.bit_record.proofs.Seek.{finds_at, finds_none, Said, sought, passed, here_small, past_less}
 use Rattle.bit_record.proofs.seek_from.Lts.{After-seek_in_word}

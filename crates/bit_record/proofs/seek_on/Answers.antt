@@ -7,7 +7,6 @@ use Rattle.bit_record.proofs.seek_on.Tie.{the-claims}
 use Rattle.bit_record.proofs.seek_on.Goals as goal
 
 -- what seeking in the rest of the word says
-
 module _ (c : After-seek_near the-claims Pre Post) where
   abbrev Told : Type 0
   Told =

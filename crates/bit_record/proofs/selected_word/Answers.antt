@@ -1,4 +1,4 @@
--- What the three calls return is the word masked as in `holds-word`, which says that it holds the selected positions.
+-- What the three calls return is the word masked as in `holds_word`, which says that it holds the selected positions.
 use Rattle.bit_record.proofs.Record.{holds_word}
 use Rattle.bit_record.proofs.selected_word.Goals as goal
 

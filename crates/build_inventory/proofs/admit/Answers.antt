@@ -14,12 +14,11 @@ use Rattle.build_inventory.proofs.admit.Tie.{the-claims}
 use Rattle.build_inventory.proofs.admit.Goals as goal
 
 -- the record is tested
-
 module _ (c : After-test_record the-claims Pre Post) where
   record_told : let a = c.args in Tells (of_record_from a.words.now a.len a.origin) c.test_record-tested.result
   record_told = record { told = c.test_record-tested.ensures }
-  -- it passes, and the plan is made
 
+-- it passes, and the plan is made
 module _ (c : After-plan the-claims Pre Post) where
   plan_told : let a = c.args in
       planned c.plan.result ≡ refuse_by (of_record_from a.words.now a.len a.origin) (plan_of a.words.now a.len a.polarity a.choice)

@@ -11,7 +11,6 @@ use Rattle.build_inventory.proofs.build.Tie.{the-claims}
 use Rattle.build_inventory.proofs.build.Goals as goal
 
 -- with a summary
-
 module _ (c : Past-After-known_told the-claims Pre Post) where
   abbrev summary : Summary
   summary = c.in-Summary.summary

@@ -13,7 +13,6 @@ use Rattle.build_inventory.proofs.same_plan.Goals.{then-same_polarity, else-same
 use Rattle.build_inventory.proofs.same_plan.Goals as goal
 
 -- the fields up to the first, second, .. number
-
 module _ (p q : Parameters) where
   abbrev upto1 : Bool
   upto1 = same_polarity p.polarity q.polarity && eqb p.len q.len
@@ -28,7 +27,6 @@ module _ (p q : Parameters) where
   upto4 = upto3 && eqb (M p) (M q)
 
 -- what each test leaves
-
 module _ (c : Joined1 the-claims Pre Post) where
   left1 : c.if-same_polarity.t-9 ≡ upto1 c.args.p c.args.q
   left1 =

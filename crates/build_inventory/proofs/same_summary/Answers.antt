@@ -11,7 +11,6 @@ use Rattle.build_inventory.proofs.same_summary.Goals.{then-same_plan, else-same_
 use Rattle.build_inventory.proofs.same_summary.Goals as goal
 
 -- what each test leaves
-
 module _ (c : Joined1 the-claims Pre Post) where
   left1 : let a = c.args.a in let b = c.args.b in c.if-same_plan.t-7 ≡ same_plan a.plan b.plan && eqb a.origin b.origin
   left1 =

@@ -1,5 +1,5 @@
 -- An unknown code leaves all as it was. Else the codes stand for the entry's arguments, and its summary goes out as nine
--- numbers or its refusal as its own, with the cells that it left (`built-yes`, `built-no`).
+-- numbers or its refusal as its own, with the cells that it left (`built_yes`, `built_no`).
 use mathlib.Core.Path.{refl}
 use lib.ListN.{length}
 use Rattle.bit_record.specs.declared.Polarity.{Polarity}

@@ -1,4 +1,4 @@
--- The summary goes out as nine numbers or the refusal as its own, with the cells that the entry left (`read-yes`, `read_no`).
+-- The summary goes out as nine numbers or the refusal as its own, with the cells that the entry left (`read_yes`, `read_no`).
 use Rattle.edge_index_c.proofs.Returns.{read_yes, read_no}
 use Rattle.edge_index_c.proofs.edge_index_read_image.Goals as goal
 

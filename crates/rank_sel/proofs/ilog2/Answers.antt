@@ -1,5 +1,5 @@
 -- The leading zeros and the place of the highest one make 63 (`leading`); of 0 the logarithm is 0.
-use Rattle.std.proofs.Common.{◌≡◌, ℕ, ◌+◌, ◌-◌, ◌^◌, ◌≤◌, ◌<◌, arith, add-one}
+use Rattle.std.proofs.Common.{◌≡◌, ℕ, ◌-◌, ◌^◌, ◌≤◌, ◌<◌, arith, add-one}
 use Rattle.std.proofs.Math.Nat.{pos_of_ne-zero}
 use lib.Count.{count_leading_zeros, leading_top}
 use Rattle.rank_sel.specs.Numbers.{ilog2}

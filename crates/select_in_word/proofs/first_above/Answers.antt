@@ -1,4 +1,4 @@
--- The bytes with their top bits set are no less than what is taken off; `above-first` reads the number from the trailing zeros.
+-- The bytes with their top bits set are no less than what is taken off; `above_first` reads the number from the trailing zeros.
 use native.Mathlib.Omega.{arith}
 use Rattle.select_in_word.proofs.FirstAbove.{trailing_fits, topped_ge, above_first}
 use Rattle.select_in_word.proofs.first_above.Goals as goal

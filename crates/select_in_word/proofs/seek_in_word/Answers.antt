@@ -1,5 +1,5 @@
 -- The running sums are the ranks at the word's bytes: the last is the count of ones, and the first above k names the byte. The
--- same sums over that byte's bits name the bit (`sought-bit`).
+-- same sums over that byte's bits name the bit (`sought_bit`).
 use mathlib.Core.Path.{◌≡◌, ◌∙◌}
 use Prim.Native.Nat.{ℕ, suc, ◌+◌, ◌*◌, ◌/◌, ◌%◌, ◌^◌}
 use native.Mathlib.Omega.{arith}

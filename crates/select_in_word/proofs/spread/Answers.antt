@@ -1,4 +1,4 @@
--- Computed for each of the 256 bytes (`same-table`); what the mask keeps is no larger than it, so that the addition fits.
+-- Computed for each of the 256 bytes (`same_table`); what the mask keeps is no larger than it, so that the addition fits.
 use mathlib.Core.Path.{refl}
 use Prim.Native.Nat.{◌+◌, ◌*◌, ◌/◌, ◌^◌}
 use native.Mathlib.Omega.{arith}

@@ -1,4 +1,4 @@
--- The full word shifted down by 64 - residual is the mask (`mask-shr`); for 0 it stays full.
+-- The full word shifted down by 64 - residual is the mask (`mask_shr`); for 0 it stays full.
 use native.Mathlib.Omega.{arith}
 use Rattle.select_in_word.proofs.Tail.{mask_shr}
 use Rattle.select_in_word.proofs.tail_mask.Goals as goal

@@ -1,4 +1,4 @@
--- L is never over 63 (`span-most`), so that only the maximum can be refused; past its test the plan is what `with_max` returns.
+-- L is never over 63 (`span_most`), so that only the maximum can be refused; past its test the plan is what `with_max` returns.
 use Rattle.std.proofs.Common.{◌≡◌, false, ltb, le-ltb, lt-ltb}
 use Rattle.spacing.specs.Spacing.{span_log2, plan_for, chosen_plan}
 use Rattle.spacing.proofs.Span.{span_most}

@@ -1,4 +1,4 @@
--- Each field is reckoned as `entry_of` says it (`entry-made`); the span is no wrapped difference, since the starts rise.
+-- Each field is reckoned as `entry_of` says it (`entry_made`); the span is no wrapped difference, since the starts rise.
 use mathlib.Core.Path.{◌≡◌, sym, ap, ◌∙◌}
 use Prim.Native.Nat.{ℕ, ◌+◌, ◌*◌, ◌^◌, ◌≤◌, ◌<◌}
 use native.Mathlib.Omega.{arith}
@@ -14,7 +14,6 @@ use Rattle.build_inventory.proofs.entry.entry_at.Tie.{the-claims}
 use Rattle.build_inventory.proofs.entry.entry_at.Goals as goal
 
 -- the entry's first rank, with its power
-
 module _ (c : After-pow2 the-claims Pre Post) where
   first : c.args.e * c.pow2-ones.result ≡ c.args.e * 2 ^ L c.args.plan
   first = ap (λ (z : ℕ). c.args.e * z) c.pow2-ones.ensures
@@ -22,8 +21,8 @@ module _ (c : After-pow2 the-claims Pre Post) where
   -- N is small
   few : N c.args.plan < 2 ^ 62
   few = let r = c.requires.0 in omega (arith, r.admitted.short, r.few)
-  -- where the next entry starts
 
+-- where the next entry starts
 module _ (c : After-next_start the-claims Pre Post) where
   next :
       let a = c.args in

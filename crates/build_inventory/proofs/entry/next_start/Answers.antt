@@ -1,4 +1,4 @@
--- 2^L selected bits on from the entry's first one stands the next entry's, or there is none (`bound-next`).
+-- 2^L selected bits on from the entry's first one stands the next entry's, or there is none (`bound_next`).
 use mathlib.Core.Path.{ap, ◌∙◌}
 use Prim.Native.Nat.{◌^◌}
 use lib.Pow.{pow_mono}

@@ -1,4 +1,4 @@
--- The heads are written over the whole part; the stream then fills the part behind them, and `own-made` joins the two.
+-- The heads are written over the whole part; the stream then fills the part behind them, and `own_made` joins the two.
 use mathlib.Core.Path.{◌≡◌, refl, ap, ◌∙◌}
 use mathlib.Core.List.{List}
 use Prim.Native.Nat.{ℕ, ◌+◌, ◌-◌, ◌^◌, ◌≤◌}
@@ -20,7 +20,6 @@ marks : (c : Start the-claims Pre Post) → Streamable (pos_in c.args.words.now 
 marks c = streamable c.args.words.now c.args.plan c.requires.0 c.args.x c.requires.1
 
 -- with the heads written
-
 module _ (c : After-write_heads the-claims Pre Post) where
   abbrev heads : ℕ
   heads = c.args.x.shape.heads

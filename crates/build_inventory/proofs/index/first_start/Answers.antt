@@ -1,4 +1,4 @@
--- A seek from the record's begin finds the bit of rank 0, or the end where nothing is selected (`bound-first`).
+-- A seek from the record's begin finds the bit of rank 0, or the end where nothing is selected (`bound_first`).
 use mathlib.Core.Path.{ap, ◌∙◌}
 use native.Mathlib.Omega.{arith}
 use Rattle.build_inventory.specs.Positions.{or_end}

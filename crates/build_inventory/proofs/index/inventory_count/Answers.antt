@@ -12,7 +12,6 @@ use Rattle.build_inventory.proofs.index.inventory_count.Tie.{the-claims}
 use Rattle.build_inventory.proofs.index.inventory_count.Goals as goal
 
 -- the count is within the bound
-
 module _ (c : Else2 the-claims Pre Post) where
   within : (c.entry_count-count.result * c.entry_len-cells.result + 1 ≡ inventory_len_of c.args.plan)
       × (c.entry_count-count.result * c.entry_len-cells.result + 1 ≤ c.args.most)

@@ -17,7 +17,6 @@ below : (c : In-loop the-claims Pre Post goal.the-invariant-loop-e goal.the-decr
 below c = omega (arith, c.entry_count-count.ensures, c.loop-e-test.true)
 
 -- its cells, and those that it spills, are there
-
 module _ (c : After-entry_at the-claims Pre Post goal.the-invariant-loop-e goal.the-decreases-loop-e) where
   room : stride c.args.plan + c.loop-e.at ≤ length c.args.inventory.now
   room =

@@ -1,4 +1,4 @@
--- The cells behind the heads are compared where the heads agree: with `own-yes` and `own-no` that is the whole entry's answer.
+-- The cells behind the heads are compared where the heads agree: with `own_yes` and `own_no` that is the whole entry's answer.
 use mathlib.Core.Bool.{false≢true}
 use mathlib.Core.Path.{ap, ap₂, ◌∙◌}
 use Prim.Native.Nat.{ℕ, ◌+◌, ◌-◌, ◌*◌, ◌^◌, ◌≤◌}

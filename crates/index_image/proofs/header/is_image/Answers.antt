@@ -13,13 +13,12 @@ use Rattle.inventory.proofs.Lanes.{tab_at}
 use Rattle.index_image.specs.Bytes.{word_from, words_from}
 use Rattle.index_image.specs.Image.{offset_of, of_summary_alone, summary_in}
 use Rattle.index_image.proofs.Formed.{field, is_no, is_yes}
-use Rattle.index_image.proofs.header.is_image.Lts.{After-is_end, After-is_end2, After-read_header, After-test_alone}
+use Rattle.index_image.proofs.header.is_image.Lts.{After-is_end, After-read_header, After-test_alone}
 use Rattle.index_image.proofs.header.is_image.Reads.{Pre, Post}
 use Rattle.index_image.proofs.header.is_image.Tie.{the-claims}
 use Rattle.index_image.proofs.header.is_image.Goals as goal
 
 -- the header is read
-
 module _ (c : After-read_header the-claims Pre Post) where
   abbrev bs : List ℕ
   bs = c.args.bytes.now
@@ -33,8 +32,8 @@ module _ (c : After-read_header the-claims Pre Post) where
   read : (i : ℕ) → i < 11 → get_or c.read_header-header.result i 0 ≡ field bs i
   unfolding words_from
   read i l = ap (λ (z : List ℕ). get_or z i 0) c.read_header-header.ensures ∙ tab_at (λ j. word_from bs (0 + 8 * j)) 11 i l
-  -- the end of the inventory, and that of the spill, are tested
 
+-- the end of the inventory, and that of the spill, are tested
 module _ (c : After-is_end the-claims Pre Post) where
   abbrev fields : List ℕ
   fields = c.read_header-header.result

@@ -1,4 +1,4 @@
--- The reads lie within the array; the first eight of a list are its take (`first-eight`).
+-- The reads lie within the array; the first eight of a list are its take (`first_eight`).
 use mathlib.Core.List.{List, [], ◌∷◌, ◌++◌}
 use mathlib.Core.Path.{sym, ap}
 use Prim.Native.Nat.{ℕ}

@@ -1,4 +1,4 @@
--- Three writes, each just behind the one before it, are one put of all (`put-image`).
+-- Three writes, each just behind the one before it, are one put of all (`put_image`).
 use native.Mathlib.Omega.{arith}
 use lib.ListN.{take}
 use lib.Seq.{take_all, length-take-le}

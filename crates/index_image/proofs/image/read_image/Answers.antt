@@ -19,7 +19,6 @@ use Rattle.index_image.proofs.image.read_image.Tie.{the-claims}
 use Rattle.index_image.proofs.image.read_image.Goals as goal
 
 -- the bytes are tested
-
 module _ (c : After-is_image the-claims Pre Post) where
   abbrev bs : List ℕ
   bs = c.args.bytes.now
@@ -29,21 +28,21 @@ module _ (c : After-is_image the-claims Pre Post) where
 
   short : length bs < 2 ^ 64
   short = search rules
-  -- and are an image
 
+-- and are an image
 module _ (c : Else1 the-claims Pre Post) where
   lawful : image_unlawful (bs c.before) ≡ false
   lawful = not-true _ (sym c.is_image.ensures ∙ c.if-not-is_image.false)
 
   ends : let t = summary_in (bs c.before) in length (bs c.before) ≡ offset_of (t.inventory_len + t.spill_len)
   ends = lawful_ends (bs c.before) (small c.before) (short c.before) lawful
-  -- the cells are tested
 
+-- the cells are tested
 module _ (c : After-test_cells the-claims Pre Post) where
   called : let a = c.args in ReadCalled a.bytes.now a.inventory.now a.spill.now c.test_cells-tested.result
   called = record { lawful = lawful c.before.before; told = record { told = rw (sym c.summary_in-summary.ensures) c.test_cells-tested.ensures } }
-  -- and suffice
 
+-- and suffice
 module _ (c : Past-After-enum_told the-claims Pre Post) where
   abbrev t : Summary
   t = c.summary_in-summary.result

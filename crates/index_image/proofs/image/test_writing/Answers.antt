@@ -1,5 +1,5 @@
 -- One test after another: where one stops, so do all; where those before it pass, the place's speaks for them, since the cells that
--- are there make the image as long as the counts say (`image-long`).
+-- are there make the image as long as the counts say (`image_long`).
 use mathlib.Core.List.{[], ◌∷◌, ◌++◌}
 use mathlib.Core.Path.{◌≡◌, sym, ap, ◌∙◌}
 use Prim.Native.Nat.{ℕ}
@@ -19,7 +19,6 @@ use Rattle.index_image.proofs.image.test_writing.Tie.{the-claims}
 use Rattle.index_image.proofs.image.test_writing.Goals as goal
 
 -- the summary is tested
-
 module _ (c : After-test_alone the-claims Pre Post) where
   abbrev place : Conditions
   place = let a = c.args in (place_too_short a.summary a.inventory.now a.spill.now a.lent, 16) ∷ []
@@ -29,8 +28,8 @@ module _ (c : After-test_alone the-claims Pre Post) where
 
   alone_told : Tells (of_summary_alone c.args.summary) c.test_alone-alone.result
   alone_told = record { told = c.test_alone-alone.ensures }
-  -- so are the cells: what the place's test tells is told by all, where they pass
 
+-- so are the cells: what the place's test tells is told by all, where they pass
 module _ (c : After-test_cells the-claims Pre Post) where
   cells_told : Tells (cells c.before.before) c.test_cells-cells.result
   cells_told = record { told = c.test_cells-cells.ensures }
@@ -40,8 +39,8 @@ module _ (c : After-test_cells the-claims Pre Post) where
   writing_told e v =
       goes_on (alone_told c.before.before) (cells c.before.before ++ place c.before.before) c.in-Passed.is
       (goes_on cells_told (place c.before.before) e v)
-  -- and the place, by the counts
 
+-- and the place, by the counts
 module _ (c : After-is_place_too_short the-claims Pre Post) where
   short_told : let a = c.args in
       c.is_place_too_short.result ≡ place_too_short a.summary a.inventory.now a.spill.now a.lent

@@ -12,13 +12,12 @@ use Rattle.index_image.proofs.image.write_image.Tie.{the-claims}
 use Rattle.index_image.proofs.image.write_image.Goals as goal
 
 -- the tests have spoken
-
 module _ (c : After-test_writing the-claims Pre Post) where
   called : let a = c.args in
       WriteCalled a.summary a.inventory.now a.spill.now (length a.bytes.now) c.test_writing-tested.result
   called = record { told = record { told = c.test_writing-tested.ensures } }
-  -- and are passed
 
+-- and are passed
 module _ (c : Past-After-enum_told the-claims Pre Post) where
   room : let a = c.args in offset_of (a.summary.inventory_len + a.summary.spill_len) < 2 ^ 64
   room = omega (arith, write_room (called c.before) c.in-Passed.is)

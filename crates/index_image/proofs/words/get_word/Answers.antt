@@ -1,4 +1,4 @@
--- A word is its two halves (`word-halves`).
+-- A word is its two halves (`word_halves`).
 use Rattle.index_image.proofs.Bytes.{word_halves}
 use Rattle.index_image.proofs.words.get_word.Goals as goal
 

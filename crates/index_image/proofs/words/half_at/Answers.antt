@@ -1,4 +1,4 @@
--- Four bytes below 256 add up to less than 2^32, and the sum is their pack (`half-sum`).
+-- Four bytes below 256 add up to less than 2^32, and the sum is their pack (`half_sum`).
 use Prim.Native.Nat.{◌+◌}
 use native.Mathlib.Omega.{arith}
 use Rattle.index_image.proofs.Bytes.{half_sum}

@@ -1,4 +1,4 @@
--- Eight stores, a byte each, are one put of the word's bytes (`put-bytes`).
+-- Eight stores, a byte each, are one put of the word's bytes (`put_bytes`).
 use native.Mathlib.Omega.{arith}
 use lib.ListN.{length-set}
 use Rattle.index_image.proofs.Put.{put_bytes}

@@ -1,7 +1,7 @@
 -- What is read so far stands before what the cells held behind it (`words_more`).
 use mathlib.Core.Path.{◌≡◌}
 use mathlib.Core.List.{◌++◌}
-use Prim.Native.Nat.{◌+◌, ◌-◌, ◌≤◌}
+use Prim.Native.Nat.{◌-◌, ◌≤◌}
 use lib.ListN.{length, drop}
 use Rattle.index_image.specs.Bytes.{words_from}
 use Rattle.index_image.proofs.words.read_words.Given as goal

@@ -1,4 +1,4 @@
--- The bytes of the cells so far stand in their place, and all else as it was (`put-more`).
+-- The bytes of the cells so far stand in their place, and all else as it was (`put_more`).
 use mathlib.Core.Path.{◌≡◌}
 use Prim.Native.Nat.{◌-◌, ◌≤◌}
 use lib.ListN.{length, take}

@@ -1,4 +1,4 @@
--- Below 2 and above it `tagged-low` and `tagged-high` say the kind; at 2 it is computed.
+-- Below 2 and above it `tagged_low` and `tagged_high` say the kind; at 2 it is computed.
 use mathlib.Core.Path.{sym, ap}
 use Prim.Native.Nat.{◌/◌, ◌^◌}
 use native.Mathlib.Omega.{arith}

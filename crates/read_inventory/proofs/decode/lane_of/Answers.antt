@@ -1,4 +1,4 @@
--- The shift brings the lane down and the mask keeps its bits, as `lane-masked` says.
+-- The shift brings the lane down and the mask keeps its bits, as `lane_masked` says.
 use Rattle.read_inventory.proofs.Reading.{lane_masked}
 use Rattle.read_inventory.proofs.decode.lane_of.Goals as goal
 

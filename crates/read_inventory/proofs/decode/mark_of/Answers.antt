@@ -1,5 +1,5 @@
--- A U16 entry's numbers stand in its own cells (`quarter-in`), and its mark is the decoded one (`quarter-past`, `quarter-is`).
--- Any other entry is decoded, and `decoded-marks` says that this is its mark.
+-- A U16 entry's numbers stand in its own cells (`quarter_in`), and its mark is the decoded one (`quarter_past`, `quarter_is`).
+-- Any other entry is decoded, and `decoded_marks` says that this is its mark.
 use mathlib.Core.Path.{sym, ◌∙◌}
 use native.Mathlib.Omega.{arith}
 use borrow.Author.Rules.{rules}

@@ -1,4 +1,4 @@
--- The kind told is the entry's (`kind-as`), and for each return a law `spacing-..` says that it is what is defined.
+-- The kind told is the entry's (`kind_as`), and for each return a law `spacing-..` says that it is what is defined.
 use mathlib.Core.Path.{ap, ◌∙◌}
 use Prim.Native.Nat.{ℕ}
 use native.Mathlib.Omega.{arith}

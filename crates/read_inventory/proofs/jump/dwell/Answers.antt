@@ -5,13 +5,12 @@ use Rattle.rank_sel.specs.Outcome.{Outcome, answer, answered}
 use Rattle.read_inventory.specs.Read.{position_of}
 use Rattle.read_inventory.proofs.Answers.{MarkRead, position_by, low_by, dwell_stops, dwell_stops_late, dwell_both}
 use Rattle.read_inventory.proofs.Passing.{DwellCalled, dwell_held, dwell_first, dwell_second, dwell_passed, dwell_stopped}
-use Rattle.read_inventory.proofs.jump.dwell.Lts.{After-finish, After-finish2, After-mark_of, After-mark_of2, After-test_dwell, Past-After-enum_told}
+use Rattle.read_inventory.proofs.jump.dwell.Lts.{After-finish, After-finish2, After-mark_of, After-mark_of2, After-test_dwell}
 use Rattle.read_inventory.proofs.jump.dwell.Reads.{Pre, Post}
 use Rattle.read_inventory.proofs.jump.dwell.Tie.{the-claims}
 use Rattle.read_inventory.proofs.jump.dwell.Goals as goal
 
 -- the tests have spoken
-
 module _ (c : After-test_dwell the-claims Pre Post) where
   called : let a = c.args in
       DwellCalled a.words.now a.summary a.inventory.now a.spill.now a.a a.b c.test_dwell-tested.result
@@ -28,8 +27,8 @@ module _ (c : After-mark_of the-claims Pre Post) where
 module _ (c : After-finish the-claims Pre Post) where
   first : answered c.finish-from.result ≡ position c.before.before.before.before c.args.a
   first = c.finish-from.ensures ∙ position_by (read c.before) c.args.words.now
-  -- and so does the mark of b
 
+-- and so does the mark of b
 module _ (c : After-mark_of2 the-claims Pre Post) where
   read2 : let a = c.args in
       MarkRead a.summary a.inventory.now a.spill.now a.b c.mark_of-2.result

@@ -11,18 +11,17 @@ use Rattle.read_inventory.proofs.jump.select.Tie.{the-claims}
 use Rattle.read_inventory.proofs.jump.select.Goals as goal
 
 -- the tests have spoken
-
 module _ (c : After-test_call the-claims Pre Post) where
   called : let a = c.args in
       Called a.words.now a.summary a.inventory.now a.spill.now a.rank c.test_call-tested.result
   called = record { told = c.test_call-tested.ensures }
-  -- the mark is read
 
+-- the mark is read
 module _ (c : After-mark_of the-claims Pre Post) where
   read : let a = c.args in MarkRead a.summary a.inventory.now a.spill.now a.rank c.mark_of.result
   read = record { told = c.mark_of.ensures }
-  -- it leads to the position
 
+-- it leads to the position
 module _ (c : After-finish the-claims Pre Post) where
   position : let a = c.args in
       answered c.finish-found.result ≡ position_of a.words.now a.summary a.inventory.now a.spill.now a.rank

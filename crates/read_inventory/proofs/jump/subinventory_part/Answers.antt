@@ -12,13 +12,12 @@ use Rattle.read_inventory.proofs.jump.subinventory_part.Tie.{the-claims}
 use Rattle.read_inventory.proofs.jump.subinventory_part.Goals as goal
 
 -- the tests have spoken
-
 module _ (c : After-test_call the-claims Pre Post) where
   called : let a = c.args in
       Called a.words.now a.summary a.inventory.now a.spill.now a.rank c.test_call-tested.result
   called = record { told = c.test_call-tested.ensures }
-  -- the mark is decoded
 
+-- the mark is decoded
 module _ (c : Past-After-known_told the-claims Pre Post) where
   stored : let a = c.args in
       Stored a.words.now a.summary a.inventory.now a.spill.now a.rank c.in-Mark.decoded

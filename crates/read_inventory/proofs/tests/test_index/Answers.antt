@@ -15,13 +15,12 @@ use Rattle.read_inventory.proofs.tests.test_index.Tie.{the-claims}
 use Rattle.read_inventory.proofs.tests.test_index.Goals as goal
 
 -- the record is tested
-
 module _ (c : After-test_record the-claims Pre Post) where
   record_told : let a = c.args in
       Tells (of_record_from a.words.now a.summary.plan.len a.summary.origin) c.test_record-record.result
   record_told = record { told = c.test_record-record.ensures }
-  -- so is the summary: what the cells' tests tell is told by all, where it passes
 
+-- so is the summary: what the cells' tests tell is told by all, where it passes
 module _ (c : After-test_summary the-claims Pre Post) where
   abbrev cells : Conditions
   cells = let a = c.args in of_cells a.summary a.inventory.now a.spill.now
@@ -34,8 +33,8 @@ module _ (c : After-test_summary the-claims Pre Post) where
   index_told e v =
       goes_on (record_told c.before.before) (of_summary c.args.summary ++ cells) c.in-Passed.is
       (goes_on summary_told cells e v)
-  -- and the inventory
 
+-- and the inventory
 module _ (c : After-test_lent the-claims Pre Post) where
   abbrev spill : Conditions
   spill = let a = c.args in (spill_too_short a.summary a.spill.now, 7) ∷ []

@@ -22,12 +22,11 @@ tells_rises : (a b : ℕ) → a ≤ b → Tells ((ltb b a, 11) ∷ []) Passed
 tells_rises a b l = record { told = rw (le-ltb b a l) }
 
 -- the first rank is tested
-
 module _ (c : After-test_rank the-claims Pre Post) where
   first_told : Tells (of_rank c.args.num c.args.a) c.test_rank-first.result
   first_told = record { told = c.test_rank-first.ensures }
-  -- and so is the second: what the tests from it on tell is told by all
 
+-- and so is the second: what the tests from it on tell is told by all
 module _ (c : After-test_rank2 the-claims Pre Post) where
   abbrev falls : Conditions
   falls = (ltb c.args.b c.args.a, 11) ∷ []

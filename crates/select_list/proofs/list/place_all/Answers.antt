@@ -1,8 +1,5 @@
 -- The first walk's refusal leaves the places; else they are written by a second walk, or from what the first held aside.
 use Rattle.select_list.proofs.Placed.{placed_refused, placed_again, placed_aside}
-use Rattle.select_list.proofs.list.place_all.Lts.{After-walk_into}
-use Rattle.select_list.proofs.list.place_all.Reads.{Pre, Post}
-use Rattle.select_list.proofs.list.place_all.Tie.{the-claims}
 use Rattle.select_list.proofs.list.place_all.Goals as goal
 
 -- the first walk

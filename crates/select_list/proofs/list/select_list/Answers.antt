@@ -7,7 +7,6 @@ use Rattle.select_list.proofs.list.select_list.Tie.{handed_clauses, the-claims}
 use Rattle.select_list.proofs.list.select_list.Goals as goal
 
 -- the tests have spoken
-
 module _ (c : After-test_call the-claims Pre Post handed_clauses) where
   called : let a = c.args in
       ListCalled a.words.now a.summary a.inventory.now a.spill.now a.ranks.now (length a.places.now) c.test_call-tested.result

@@ -1,11 +1,7 @@
 use mathlib.Core.Path.{ap, ◌∙◌}
-use Prim.Native.Nat.{◌-◌}
 use lib.ListN.{set}
 use native.Mathlib.Omega.{arith}
 use Rattle.select_list.proofs.Walk.{stands_first, stands_long, stands_all, stands_refused, stands_small, stands_low, stands_more}
-use Rattle.select_list.proofs.list.walk_into.Lts.{After-sample_at, After-step_to}
-use Rattle.select_list.proofs.list.walk_into.Reads.{Pre, Post}
-use Rattle.select_list.proofs.list.walk_into.Tie.{the-claims}
 use Rattle.select_list.proofs.list.walk_into.Goals as goal
 
 pub loop-i-init : goal.loop-i-init

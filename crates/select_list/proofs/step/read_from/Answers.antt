@@ -10,7 +10,6 @@ use Rattle.select_list.proofs.step.read_from.Tie.{the-claims}
 use Rattle.select_list.proofs.step.read_from.Goals as goal
 
 -- the record was read from the start on
-
 module _ (c : After-seek_on the-claims Pre Post) where
   abbrev f : ℕ → Bool
   f =

@@ -10,7 +10,6 @@ use Rattle.select_list.proofs.step.start_of.Tie.{the-claims}
 use Rattle.select_list.proofs.step.start_of.Goals as goal
 
 -- whether the last bit lies later is told
-
 module _ (c : After-is_later the-claims Pre Post) where
   abbrev f : ℕ → Bool
   f =

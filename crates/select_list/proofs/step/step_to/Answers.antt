@@ -7,7 +7,6 @@ use Rattle.select_list.proofs.step.step_to.Tie.{the-claims}
 use Rattle.select_list.proofs.step.step_to.Goals as goal
 
 -- the mark is read
-
 module _ (c : After-mark_of the-claims Pre Post) where
   read : let a = c.args in MarkRead a.summary a.inventory.now a.spill.now a.rank c.mark_of.result
   read = record { told = c.mark_of.ensures }

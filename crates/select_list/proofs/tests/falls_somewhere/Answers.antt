@@ -1,5 +1,4 @@
 use mathlib.Core.Path.{refl, sym, ◌∙◌}
-use Prim.Native.Nat.{◌-◌}
 use native.Mathlib.Omega.{arith}
 use Rattle.select_list.proofs.Ranks.{falls_end, falls_here, falls_later}
 use Rattle.select_list.proofs.tests.falls_somewhere.Goals as goal

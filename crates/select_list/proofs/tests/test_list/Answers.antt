@@ -9,7 +9,6 @@ use Rattle.select_list.proofs.tests.test_list.Tie.{the-claims}
 use Rattle.select_list.proofs.tests.test_list.Goals as goal
 
 -- whether the ranks fall is told
-
 module _ (c : After-falls_somewhere the-claims Pre Post) where
   told : (b : Bool) → c.falls_somewhere.result ≡ b → falls c.args.ranks.now ≡ b
   told b e = sym c.falls_somewhere.ensures ∙ e

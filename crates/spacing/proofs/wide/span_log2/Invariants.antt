@@ -1,4 +1,4 @@
--- L is at most l throughout, at the start by `span-most`: each comparison finds it or lowers l (`span-turn`), and at 0 it is 0.
+-- L is at most l throughout, at the start by `span_most`: each comparison finds it or lowers l (`span_turn`), and at 0 it is 0.
 use Rattle.std.proofs.Common.{◌<◌, ◌≤◌}
 use Rattle.spacing.specs.Spacing.{span_log2}
 use Rattle.spacing.proofs.wide.span_log2.Given as goal
