@@ -1,5 +1,7 @@
-// The face for C, include/edge_index.h: numbers in, a number out, answers behind pointers. Each call reads its codes
-// and hands on to the entry that it stands for.
+// The face for C, include/edge_index.h: numbers in, a number out, answers behind references. Each call reads its codes
+// and hands on to the entry that it stands for. The crate edge_index_c_c exports the calls under the same names.
+#![tactic(auto)]
+
 ghost use Rattle.std.specs.Prelude.{◌≡◌, length};
 ghost use Rattle.rank_sel.specs.Outcome.{answered, number_of};
 ghost use Rattle.select_in_word.specs.Select.{select_in_word};
@@ -59,8 +61,7 @@ fn give(told: Answer, out: &mut u64) -> u32
     }
 }
 
-#[unsafe(no_mangle)]
-pub extern "C" fn edge_index_count(words: &[u64], len: u64, polarity: u32, num: &mut u64) -> u32
+pub fn edge_index_count(words: &[u64], len: u64, polarity: u32, num: &mut u64) -> u32
     ensures { Returned (count_c words.now len polarity) result num.old num.new }
 {
     if polarity > 1 {
@@ -72,8 +73,7 @@ pub extern "C" fn edge_index_count(words: &[u64], len: u64, polarity: u32, num: 
     )
 }
 
-#[unsafe(no_mangle)]
-pub extern "C" fn edge_index_plan(
+pub fn edge_index_plan(
     words: &[u64],
     len: u64,
     polarity: u32,
@@ -103,8 +103,7 @@ pub extern "C" fn edge_index_plan(
     }
 }
 
-#[unsafe(no_mangle)]
-pub extern "C" fn edge_index_size(
+pub fn edge_index_size(
     words: &[u64],
     len: u64,
     polarity: u32,
@@ -131,8 +130,7 @@ pub extern "C" fn edge_index_size(
     }
 }
 
-#[unsafe(no_mangle)]
-pub extern "C" fn edge_index_build(
+pub fn edge_index_build(
     words: &[u64],
     len: u64,
     origin: u64,
@@ -179,8 +177,7 @@ fn verdict(told: Checked) -> Answer
     }
 }
 
-#[unsafe(no_mangle)]
-pub extern "C" fn edge_index_check(
+pub fn edge_index_check(
     words: &[u64],
     len: u64,
     origin: u64,
@@ -216,8 +213,7 @@ pub extern "C" fn edge_index_check(
     give(verdict(told), yes)
 }
 
-#[unsafe(no_mangle)]
-pub extern "C" fn edge_index_select(
+pub fn edge_index_select(
     words: &[u64],
     summary: &[u64; SUMMARY_NUMBERS],
     inventory: &[u64],
@@ -236,8 +232,7 @@ pub extern "C" fn edge_index_select(
     )
 }
 
-#[unsafe(no_mangle)]
-pub extern "C" fn edge_index_hint(
+pub fn edge_index_hint(
     words: &[u64],
     summary: &[u64; SUMMARY_NUMBERS],
     inventory: &[u64],
@@ -261,8 +256,7 @@ pub extern "C" fn edge_index_hint(
     }
 }
 
-#[unsafe(no_mangle)]
-pub extern "C" fn edge_index_subinventory(
+pub fn edge_index_subinventory(
     words: &[u64],
     summary: &[u64; SUMMARY_NUMBERS],
     inventory: &[u64],
@@ -294,8 +288,7 @@ pub extern "C" fn edge_index_subinventory(
     }
 }
 
-#[unsafe(no_mangle)]
-pub extern "C" fn edge_index_dwell(
+pub fn edge_index_dwell(
     words: &[u64],
     summary: &[u64; SUMMARY_NUMBERS],
     inventory: &[u64],
@@ -315,8 +308,7 @@ pub extern "C" fn edge_index_dwell(
     )
 }
 
-#[unsafe(no_mangle)]
-pub extern "C" fn edge_index_select_list(
+pub fn edge_index_select_list(
     words: &[u64],
     summary: &[u64; SUMMARY_NUMBERS],
     inventory: &[u64],
@@ -334,8 +326,7 @@ pub extern "C" fn edge_index_select_list(
     give(told, words_read)
 }
 
-#[unsafe(no_mangle)]
-pub extern "C" fn edge_index_write_image(
+pub fn edge_index_write_image(
     summary: &[u64; SUMMARY_NUMBERS],
     inventory: &[u64],
     spill: &[u64],
@@ -352,8 +343,7 @@ pub extern "C" fn edge_index_write_image(
 }
 
 // A code that is no polarity is 15 here, as any header against the rules.
-#[unsafe(no_mangle)]
-pub extern "C" fn edge_index_read_image(
+pub fn edge_index_read_image(
     bytes: &[u8],
     inventory: &mut [u64],
     spill: &mut [u64],
@@ -370,8 +360,7 @@ pub extern "C" fn edge_index_read_image(
     }
 }
 
-#[unsafe(no_mangle)]
-pub extern "C" fn edge_index_select_in_word(word: u64, rank: u64, position: &mut u64) -> u32
+pub fn edge_index_select_in_word(word: u64, rank: u64, position: &mut u64) -> u32
     ensures { Returned (select_in_word word rank) result position.old position.new }
 {
     match edge_index::select_in_word(word, rank) {
