@@ -2,6 +2,6 @@
 # Proves the library, compiles the example against it and runs it under valgrind: sh examples/c/run.sh, from the root.
 set -eu
 mkdir -p target/c
-rt staticlib edge_index_c >target/c/staticlib.log 2>&1 || { cat target/c/staticlib.log; exit 1; }
+sh tools/staticlib.sh
 gcc -std=c11 -Wall -Wextra -Werror -O2 -Iinclude -o target/c/period examples/c/period.c target/staticlib/libedge_index_c.a
 valgrind --quiet --leak-check=full --error-exitcode=1 target/c/period

@@ -11,91 +11,105 @@ use edge_index::{
     Answer, Built, Checked, Parameters, Planned, Refusal, Sized, Summary, build, check, count,
     plan, refusal_number, select, size,
 };
+use std::io;
 
 // The refusal of a call that the Rust answers.
-fn turned_down(tally: Tally, what: &[u8], refusal: Refusal) -> Tally {
-    tally.compare(what, refusal_number(refusal), 0)
+fn turned_down(out: &impl Print, tally: Tally, what: &str, refusal: Refusal) -> io::Result<Tally> {
+    tally.compare(out, what, refusal_number(refusal), 0)
 }
 
-fn replay_count(tally: Tally, list: &[u64], case: Case) -> Tally
+fn replay_count(out: &impl Print, tally: Tally, list: &[u64], case: Case) -> io::Result<Tally>
     requires { PartsIn list.now case.parts }
 {
     let question = case.question;
     let polarity = question.polarity;
     match count(words_of(list, case.parts), question.len, polarity) {
-        Answer::Value(num) => tally.compare(b"count", num, case.figures.num),
-        Answer::Refused(refusal) => turned_down(tally, b"refusal of count", refusal),
+        Answer::Value(num) => tally.compare(out, "count", num, case.figures.num),
+        Answer::Refused(refusal) => turned_down(out, tally, "refusal of count", refusal),
     }
 }
 
-fn compare_plan(tally: Tally, plan: Parameters, figures: Figures) -> Tally {
+fn compare_plan(
+    out: &impl Print,
+    tally: Tally,
+    plan: Parameters,
+    figures: Figures,
+) -> io::Result<Tally> {
     let l = plan.log2_ones_per_inventory as u64;
     let m = plan.log2_words_per_subinventory as u64;
     let s = plan.log2_ones_per_sub16 as u64;
     tally
-        .compare(b"N", plan.num, figures.num)
-        .compare(b"L", l, figures.log2_ones_per_inventory)
-        .compare(b"M", m, figures.log2_words_per_subinventory)
-        .compare(b"S", s, figures.log2_ones_per_sub16)
+        .compare(out, "N", plan.num, figures.num)?
+        .compare(out, "L", l, figures.log2_ones_per_inventory)?
+        .compare(out, "M", m, figures.log2_words_per_subinventory)?
+        .compare(out, "S", s, figures.log2_ones_per_sub16)
 }
 
-fn replay_plan(tally: Tally, list: &[u64], case: Case) -> Tally
+fn replay_plan(out: &impl Print, tally: Tally, list: &[u64], case: Case) -> io::Result<Tally>
     requires { PartsIn list.now case.parts }
 {
     let question = case.question;
     let polarity = question.polarity;
     let choice = question.choice;
     match plan(words_of(list, case.parts), question.len, polarity, choice) {
-        Planned::Plan(plan) => compare_plan(tally, plan, case.figures),
-        Planned::Refused(refusal) => turned_down(tally, b"refusal of plan", refusal),
+        Planned::Plan(plan) => compare_plan(out, tally, plan, case.figures),
+        Planned::Refused(refusal) => turned_down(out, tally, "refusal of plan", refusal),
     }
 }
 
 // Asked only where the Rust answers: count and plan can answer where size and build cannot.
-fn replay_figures(tally: Tally, list: &[u64], case: Case) -> Tally
+fn replay_figures(out: &impl Print, tally: Tally, list: &[u64], case: Case) -> io::Result<Tally>
     requires { PartsIn list.now case.parts }
 {
     if case.refusal != 0 {
-        return tally;
+        return Ok(tally);
     }
-    replay_plan(replay_count(tally, list, case), list, case)
+    let tally = replay_count(out, tally, list, case)?;
+    replay_plan(out, tally, list, case)
 }
 
-fn compare_counts(tally: Tally, inventory_len: u64, spill_len: u64, parts: Parts) -> Tally
+fn compare_counts(
+    out: &impl Print,
+    tally: Tally,
+    inventory_len: u64,
+    spill_len: u64,
+    parts: Parts,
+) -> io::Result<Tally>
     requires { Ordered parts }
 {
     tally
         .compare(
-            b"inventory count",
+            out,
+            "inventory count",
             inventory_len,
             (parts.spill - parts.inventory) as u64,
-        )
+        )?
         .compare(
-            b"spill count",
+            out,
+            "spill count",
             spill_len,
             (parts.selects_count - parts.spill) as u64,
         )
 }
 
 // Size takes no origin: of a case that is turned down for it, the list does not say what size answers.
-fn replay_size(tally: Tally, list: &[u64], case: Case) -> Tally
+fn replay_size(out: &impl Print, tally: Tally, list: &[u64], case: Case) -> io::Result<Tally>
     requires { PartsIn list.now case.parts }
 {
     if case.refusal == refusal_number(Refusal::OriginTooLarge) {
-        return tally;
+        return Ok(tally);
     }
     let question = case.question;
     let polarity = question.polarity;
     let choice = question.choice;
     match size(words_of(list, case.parts), question.len, polarity, choice) {
-        Sized::Cells(inventory_len, spill_len) => compare_counts(
-            tally.compare(b"refusal of size", 0, case.refusal),
-            inventory_len,
-            spill_len,
-            case.parts,
-        ),
+        Sized::Cells(inventory_len, spill_len) => {
+            let tally = tally.compare(out, "refusal of size", 0, case.refusal)?;
+            compare_counts(out, tally, inventory_len, spill_len, case.parts)
+        }
         Sized::Refused(refusal) => tally.compare(
-            b"refusal of size",
+            out,
+            "refusal of size",
             refusal_number(refusal),
             case.refusal,
         ),
@@ -103,12 +117,20 @@ fn replay_size(tally: Tally, list: &[u64], case: Case) -> Tally
 }
 
 // The first cells have to be the listed ones, and the others as they were.
-fn compare_cells(tally: Tally, what: &[u8], kept: &[u8], cells: &[u64], listed: &[u64]) -> Tally {
+fn compare_cells(
+    out: &impl Print,
+    tally: Tally,
+    what: &str,
+    kept: &str,
+    cells: &[u64],
+    listed: &[u64],
+) -> io::Result<Tally> {
     let n = alike(cells, listed);
     tally
         .with_cells(n)
-        .compare(what, n as u64, listed.len() as u64)
+        .compare(out, what, n as u64, listed.len() as u64)?
         .compare(
+            out,
             kept,
             blank_from(cells, listed.len()) as u64,
             cells.len() as u64,
@@ -116,7 +138,13 @@ fn compare_cells(tally: Tally, what: &[u8], kept: &[u8], cells: &[u64], listed: 
 }
 
 // The built summary with the listed cells.
-fn replay_check(tally: Tally, list: &[u64], case: Case, summary: Summary) -> Tally
+fn replay_check(
+    out: &impl Print,
+    tally: Tally,
+    list: &[u64],
+    case: Case,
+    summary: Summary,
+) -> io::Result<Tally>
     requires { PartsIn list.now case.parts }
 {
     let question = case.question;
@@ -132,9 +160,9 @@ fn replay_check(tally: Tally, list: &[u64], case: Case, summary: Summary) -> Tal
         inventory_of(list, case.parts),
         spill_of(list, case.parts),
     ) {
-        Checked::Yes => tally.compare(b"check says yes", 1, 1),
-        Checked::No => tally.compare(b"check says yes", 0, 1),
-        Checked::Refused(refusal) => turned_down(tally, b"refusal of check", refusal),
+        Checked::Yes => tally.compare(out, "check says yes", 1, 1),
+        Checked::No => tally.compare(out, "check says yes", 0, 1),
+        Checked::Refused(refusal) => turned_down(out, tally, "refusal of check", refusal),
     }
 }
 
@@ -178,7 +206,13 @@ fn selects_alike(
 }
 
 // The listed ranks, on the listed cells.
-fn replay_selects(tally: Tally, list: &[u64], parts: Parts, summary: Summary) -> Tally
+fn replay_selects(
+    out: &impl Print,
+    tally: Tally,
+    list: &[u64],
+    parts: Parts,
+    summary: Summary,
+) -> io::Result<Tally>
     requires { PartsIn list.now parts }
 {
     let selects = selects_of(list, parts);
@@ -191,18 +225,24 @@ fn replay_selects(tally: Tally, list: &[u64], parts: Parts, summary: Summary) ->
     );
     tally
         .with_selects(n)
-        .compare(b"selects alike", n as u64, (selects.len() / 2) as u64)
+        .compare(out, "selects alike", n as u64, (selects.len() / 2) as u64)
 }
 
-fn replay_summary(tally: Tally, list: &[u64], case: Case, summary: Summary) -> Tally
+fn replay_summary(
+    out: &impl Print,
+    tally: Tally,
+    list: &[u64],
+    case: Case,
+    summary: Summary,
+) -> io::Result<Tally>
     requires { PartsIn list.now case.parts }
 {
     let parts = case.parts;
-    let tally = compare_plan(tally, summary.plan, case.figures);
-    let tally = tally.compare(b"origin", summary.origin, case.question.origin);
-    let tally = compare_counts(tally, summary.inventory_len, summary.spill_len, parts);
-    let tally = replay_check(tally, list, case, summary);
-    replay_selects(tally, list, parts, summary)
+    let tally = compare_plan(out, tally, summary.plan, case.figures)?;
+    let tally = tally.compare(out, "origin", summary.origin, case.question.origin)?;
+    let tally = compare_counts(out, tally, summary.inventory_len, summary.spill_len, parts)?;
+    let tally = replay_check(out, tally, list, case, summary)?;
+    replay_selects(out, tally, list, parts, summary)
 }
 
 // The build into cells that are blank before.
@@ -228,23 +268,23 @@ fn build_blank(
 }
 
 fn replay_build(
+    out: &impl Print,
     tally: Tally,
     list: &[u64],
     case: Case,
     inventory: &mut [u64],
     spill: &mut [u64],
-) -> Tally
+) -> io::Result<Tally>
     requires { PartsIn list.now case.parts }
 {
     match build_blank(words_of(list, case.parts), case.question, inventory, spill) {
-        Built::Summary(summary) => replay_summary(
-            tally.compare(b"refusal of build", 0, case.refusal),
-            list,
-            case,
-            summary,
-        ),
+        Built::Summary(summary) => {
+            let tally = tally.compare(out, "refusal of build", 0, case.refusal)?;
+            replay_summary(out, tally, list, case, summary)
+        }
         Built::Refused(refusal) => tally.compare(
-            b"refusal of build",
+            out,
+            "refusal of build",
             refusal_number(refusal),
             case.refusal,
         ),
@@ -253,41 +293,45 @@ fn replay_build(
 
 // A case without listed cells is turned down: every lent cell has to be as it was.
 fn compare_index(
+    out: &impl Print,
     tally: Tally,
     list: &[u64],
     parts: Parts,
     inventory: &[u64],
     spill: &[u64],
-) -> Tally
+) -> io::Result<Tally>
     requires { PartsIn list.now parts }
 {
     let tally = compare_cells(
+        out,
         tally,
-        b"inventory cells alike",
-        b"inventory cells kept up to",
+        "inventory cells alike",
+        "inventory cells kept up to",
         inventory,
         inventory_of(list, parts),
-    );
+    )?;
     compare_cells(
+        out,
         tally,
-        b"spill cells alike",
-        b"spill cells kept up to",
+        "spill cells alike",
+        "spill cells kept up to",
         spill,
         spill_of(list, parts),
     )
 }
 
 pub(crate) fn replay_case(
+    out: &impl Print,
     tally: Tally,
     list: &[u64],
     case: Case,
     inventory: &mut [u64],
     spill: &mut [u64],
-) -> Tally
+) -> io::Result<Tally>
     requires { PartsIn list.now case.parts }
 {
-    let tally = replay_figures(tally.with_case(case.refusal), list, case);
-    let tally = replay_size(tally, list, case);
-    let tally = replay_build(tally, list, case, inventory, spill);
-    compare_index(tally, list, case.parts, inventory, spill)
+    let tally = replay_figures(out, tally.with_case(case.refusal), list, case)?;
+    let tally = replay_size(out, tally, list, case)?;
+    let tally = replay_build(out, tally, list, case, inventory, spill)?;
+    compare_index(out, tally, list, case.parts, inventory, spill)
 }

@@ -11,7 +11,7 @@ use inventory::{cut, polarity_at};
 
 const END: u64 = u64::MAX;
 
-#[derive(Drop)]
+#[derive(Clone, Copy)]
 pub(crate) struct Question {
     pub(crate) len: u64,
     pub(crate) origin: u64,
@@ -20,7 +20,7 @@ pub(crate) struct Question {
 }
 
 // N, L, M and S.
-#[derive(Drop)]
+#[derive(Clone, Copy)]
 pub(crate) struct Figures {
     pub(crate) num: u64,
     pub(crate) log2_ones_per_inventory: u64,
@@ -29,7 +29,7 @@ pub(crate) struct Figures {
 }
 
 // Where the parts of a case start: each ends where the next starts. The number of selects is a part of its own.
-#[derive(Drop)]
+#[derive(Clone, Copy)]
 pub(crate) struct Parts {
     pub(crate) words: usize,
     pub(crate) inventory: usize,
@@ -40,7 +40,7 @@ pub(crate) struct Parts {
 }
 
 // The refusal is 0 where the Rust answers. Where it does not, the figures are 0, and the parts after the words empty.
-#[derive(Drop)]
+#[derive(Clone, Copy)]
 pub(crate) struct Case {
     pub(crate) question: Question,
     pub(crate) refusal: u64,
@@ -48,7 +48,7 @@ pub(crate) struct Case {
     pub(crate) parts: Parts,
 }
 
-#[derive(Drop)]
+#[derive(Clone, Copy)]
 pub(crate) enum Next {
     Case(Case),
     End,

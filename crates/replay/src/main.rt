@@ -2,7 +2,7 @@
 // list and says its format. Every number, cell and position is held to the listed one, and the totals say how many were.
 #![tactic(auto)]
 
-ghost use Rattle.std.specs.Prelude.{◌<◌, length};
+ghost use Rattle.std.specs.Prelude.{IfOk, ◌<◌, length};
 
 mod answers;
 mod cells;
@@ -11,10 +11,10 @@ mod tally;
 
 use answers::replay_case;
 use find_edge_lib::{Capture, read_capture};
-use libc::STDIN_FILENO;
 use list::{Next, read_next};
 use rank_sel::min;
-use tally::{Tally, say};
+use std::io;
+use tally::Tally;
 
 // The place of the next case, and whether the list's end was met.
 #[derive(Drop)]
@@ -26,73 +26,91 @@ struct Progress {
 
 // The case at the place. After the end, or what is no case, nothing is read.
 fn replay_next(
+    out: &impl Print,
     progress: Progress,
     list: &[u64],
     inventory: &mut [u64],
     spill: &mut [u64],
-) -> Progress
+) -> io::Result<Progress>
     requires { progress.at < length list.now }
-    ensures { progress.at < result.at }
+    ensures { IfOk result (λ next. progress.at < next.at) }
 {
     let tally = progress.tally;
     match read_next(list, progress.at) {
-        Next::Case(case) => Progress {
-            at: case.parts.end,
-            ended: false,
-            tally: replay_case(tally, list, case, inventory, spill),
-        },
-        Next::End => Progress {
+        Next::Case(case) => {
+            let tally = replay_case(out, tally, list, case, inventory, spill)?;
+            Ok(Progress {
+                at: case.parts.end,
+                ended: false,
+                tally,
+            })
+        }
+        Next::End => Ok(Progress {
             at: list.len(),
             ended: true,
             tally,
-        },
-        Next::Broken => Progress {
+        }),
+        Next::Broken => Ok(Progress {
             at: list.len(),
             ended: false,
             tally,
-        },
+        }),
     }
 }
 
-fn replay(list: &[u64], inventory: &mut [u64], spill: &mut [u64]) -> Progress {
+fn replay(
+    out: &impl Print,
+    list: &[u64],
+    inventory: &mut [u64],
+    spill: &mut [u64],
+) -> io::Result<Progress> {
     let mut progress = Progress {
         at: 0,
         ended: false,
         tally: Tally::new(),
     };
     while progress.at < list.len() {
-        progress = replay_next(progress, list, inventory, spill);
+        progress = replay_next(out, progress, list, inventory, spill)?;
     }
-    progress
+    Ok(progress)
 }
 
 // The totals. A list that is cut short does not end in its end mark.
-fn show(list: &[u64], inventory: &mut [u64], spill: &mut [u64]) {
-    let progress = replay(list, inventory, spill);
+fn show(
+    out: &impl Print,
+    list: &[u64],
+    inventory: &mut [u64],
+    spill: &mut [u64],
+) -> io::Result<()> {
+    let progress = replay(out, list, inventory, spill)?;
     let tally = progress.tally;
     if progress.ended {
-        tally.show();
-        return;
+        return tally.show(out);
     }
-    tally.with_break().show();
+    tally.with_break(out)?.show(out)
 }
 
 // The list is read as a capture is: eight bytes to a number, the lowest first.
-fn run(list: &mut [u64], inventory: &mut [u64], spill: &mut [u64]) {
-    match read_capture(STDIN_FILENO, list) {
+fn run(
+    rt: &(impl Input + Print),
+    list: &mut [u64],
+    inventory: &mut [u64],
+    spill: &mut [u64],
+) -> io::Result<()> {
+    match read_capture(&mut rt.reader(), list) {
         Capture::Samples(bits) => {
             let numbers = min(bits / 64 + (bits % 64 + 63) / 64, list.len() as u64) as usize;
-            show(&list[..numbers], inventory, spill);
+            show(rt, &list[..numbers], inventory, spill)
         }
-        Capture::TooLong => say(b"the list is longer than the program's buffer\n"),
-        Capture::Failed => say(b"the list cannot be read\n"),
+        Capture::TooLong => println!(rt; "the list is longer than the program's buffer"),
+        Capture::Failed => println!(rt; "the list cannot be read"),
     }
 }
 
 // A list of 1 MiB, and an index larger than any in it.
-fn main() {
+fn main(rt: HostRuntime) -> io::Result<()> {
     let mut list = [0u64; 131072];
     let mut inventory = [0u64; 8192];
     let mut spill = [0u64; 1024];
-    run(&mut list, &mut inventory, &mut spill);
+    run(&rt, &mut list, &mut inventory, &mut spill)
 }

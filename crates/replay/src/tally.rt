@@ -1,7 +1,7 @@
 // What was compared, and the lines.
 ghost use Rattle.std.specs.Prelude.{◌≡◌, ◌+◌, min};
 
-use libc::STDOUT_FILENO;
+use std::io;
 
 // So many differences have a line each; the others are only counted.
 const MOST_LINES: u64 = 20;
@@ -23,15 +23,6 @@ pub(crate) fn saturating_add(a: u64, b: u64) -> u64
         return u64::MAX;
     }
     a + b
-}
-
-pub(crate) fn say(text: &[u8]) {
-    io::write_all(STDOUT_FILENO, text);
-}
-
-fn say_number(text: &[u8], number: u64) {
-    say(text);
-    io::print_decimal(STDOUT_FILENO, number);
 }
 
 impl Tally {
@@ -65,38 +56,39 @@ impl Tally {
     }
 
     // A number of the library's against the one that it has to be.
-    pub(crate) fn compare(mut self, what: &[u8], ours: u64, expected: u64) -> Self {
+    pub(crate) fn compare(
+        mut self,
+        out: &impl Print,
+        what: &str,
+        ours: u64,
+        expected: u64,
+    ) -> io::Result<Self> {
         self.comparisons = saturating_add(self.comparisons, 1);
         if ours == expected {
-            return self;
+            return Ok(self);
         }
         if self.differences < MOST_LINES {
-            say_number(b"case ", self.cases);
-            say(b", ");
-            say(what);
-            say_number(b": ", ours);
-            say_number(b", expected ", expected);
-            say(b"\n");
+            let case = self.cases;
+            println!(out; "case {case}, {what}: {ours}, expected {expected}")?;
         }
         self.differences = saturating_add(self.differences, 1);
-        self
+        Ok(self)
     }
 
     // A list that ends in no end mark, or goes on in no case.
-    pub(crate) fn with_break(mut self) -> Self {
-        say_number(b"the list breaks off after case ", self.cases);
-        say(b"\n");
+    pub(crate) fn with_break(mut self, out: &impl Print) -> io::Result<Self> {
+        let cases = self.cases;
+        println!(out; "the list breaks off after case {cases}")?;
         self.differences = saturating_add(self.differences, 1);
-        self
+        Ok(self)
     }
 
-    pub(crate) fn show(self) {
-        say_number(b"cases: ", self.cases);
-        say_number(b"\nof them refused: ", self.refused);
-        say_number(b"\ncomparisons: ", self.comparisons);
-        say_number(b"\ncells alike: ", self.cells);
-        say_number(b"\nselects alike: ", self.selects);
-        say_number(b"\ndifferences: ", self.differences);
-        say(b"\n");
+    pub(crate) fn show(self, out: &impl Print) -> io::Result<()> {
+        println!(out; "cases: {}", self.cases)?;
+        println!(out; "of them refused: {}", self.refused)?;
+        println!(out; "comparisons: {}", self.comparisons)?;
+        println!(out; "cells alike: {}", self.cells)?;
+        println!(out; "selects alike: {}", self.selects)?;
+        println!(out; "differences: {}", self.differences)
     }
 }
