@@ -1,6 +1,10 @@
 // What find_edge is given, as text and as bytes.
+#![tactic(auto)]
+
 mod number;
+mod scan;
 mod words;
 
 pub use number::{Decimal, Parsed, parse_decimal, parse_number};
+pub use scan::find;
 pub use words::pack;
