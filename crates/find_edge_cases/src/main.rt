@@ -2,9 +2,10 @@
 // where the gate compares them. The buffers are the program's, but for the spill: one cell, so that refusal 7 comes.
 #![tactic(auto)]
 
-use edge_index::{REFUSAL_COUNT, REFUSALS};
+use edge_index::REFUSALS;
 use find_edge_lib::{find_edge, refused};
-use libc::STDOUT_FILENO;
+use std::rt::Files;
+use std::{fs, io};
 
 fn zero_for_space(byte: u8) -> u8 {
     if byte == b' ' { 0 } else { byte }
@@ -12,75 +13,61 @@ fn zero_for_space(byte: u8) -> u8 {
 
 // The words of a line as arguments, which end in a zero byte.
 fn to_arguments(line: &mut [u8]) {
-    let mut i = 0;
-    while i < line.len() {
-        line[i] = zero_for_space(line[i]);
-        i += 1;
+    for byte in line {
+        *byte = zero_for_space(*byte);
     }
 }
 
-fn run_case(
-    line: &mut [u8],
+fn run_case<R: Files + Input + Print + AllocGlobal>(
+    rt: &R,
+    line: &str,
     words: &mut [u64],
     inventory: &mut [u64],
     spill: &mut [u64],
     image: &mut [u8],
-) {
-    io::write_all(STDOUT_FILENO, b"$ find_edge ");
-    io::write_all(STDOUT_FILENO, line);
-    io::write_all(STDOUT_FILENO, b"\n");
-    to_arguments(line);
-    find_edge(
-        line,
-        words,
-        inventory,
-        spill,
-        image,
-        STDOUT_FILENO,
-        STDOUT_FILENO,
-    );
+) -> io::Result<()> {
+    println!(rt; "$ find_edge {line}")?;
+    let mut args = Vec::from_slice(rt.alloc(), line.as_bytes())?;
+    to_arguments(&mut args);
+    find_edge(rt, &args, words, inventory, spill, image, rt, rt)
 }
 
-fn run_cases(
-    text: &mut [u8],
+fn run_cases<R: Files + Input + Print + AllocGlobal>(
+    rt: &R,
+    text: &str,
     words: &mut [u64],
     inventory: &mut [u64],
     spill: &mut [u64],
     image: &mut [u8],
-) {
-    let mut from = 0;
-    while from < text.len() {
-        let to = bytes::scan::find(text, from, text.len(), b'\n');
-        run_case(&mut text[from..to], words, inventory, spill, image);
-        if to == text.len() {
-            return;
-        }
-        from = to + 1;
+) -> io::Result<()> {
+    for line in text.lines() {
+        run_case(rt, line, words, inventory, spill, image)?;
     }
+    Ok(())
 }
 
 // Every row of the table of refusals.
-fn refusals() {
-    let mut i: usize = 0;
-    while i < REFUSAL_COUNT {
-        refused(STDOUT_FILENO, REFUSALS[i]);
-        i += 1;
+fn refusals(out: &impl Print) -> io::Result<()> {
+    for refusal in REFUSALS {
+        refused(out, refusal)?;
     }
+    Ok(())
 }
 
-fn main() {
-    let mut words = [0u64; 524288];
-    let mut inventory = [0u64; 131072];
+fn main(rt: HostRuntime) -> io::Result<()> {
+    let alloc = rt.alloc();
+    let mut words = vec![in alloc; 0u64; 524288]?;
+    let mut inventory = vec![in alloc; 0u64; 131072]?;
     let mut spill = [0u64; 1];
     let mut image = [0u8; 4096];
-    let mut text = io::large_buffer();
-    let n = io::read_full(os::open_read(b"cases"), &mut text);
+    let text = fs::read_to_string(&rt, "cases")?;
     run_cases(
-        &mut text[..n],
+        &rt,
+        &text,
         &mut words,
         &mut inventory,
         &mut spill,
         &mut image,
-    );
-    refusals();
+    )?;
+    refusals(&rt)
 }

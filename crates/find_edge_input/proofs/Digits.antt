@@ -1,8 +1,8 @@
 -- Laws of the digits of a text, one digit on and at the end.
 use Rattle.std.proofs.Common.{◌≡◌, ℕ, ◌+◌, ◌-◌, ◌*◌, ◌<◌, ◌≤◌, Bool, true, false, ◌&&◌, List, [], ◌∷◌, length, get_or, take, drop, sym, ap, ◌∙◌, add-one, arith, length-drop, take_all, drop-cons}
-use lib.Seq.{drop-length, take-length}
-use Rattle.bytes.specs.Bytes.{index_of, slice}
+use lib.Seq.{drop-length}
 use Rattle.find_edge_input.specs.declared.number.Parsed.{Parsed}
+use Rattle.find_edge_input.specs.Scan.{index_of}
 use Rattle.find_edge_input.specs.Number.{digit, all_digits, value_from, parsed, decimal_of, whole_first}
 
 pub digits_step : (text : List ℕ) (i : ℕ) → i < length text → all_digits (drop i text) ≡ (digit (get_or text i 0) && all_digits (drop (i + 1) text))
@@ -50,12 +50,7 @@ module _ (n : ℕ) (text : List ℕ) (i d : ℕ) (h : i < length text) (e : d �
 pub rest : (k : ℕ) (text : List ℕ) → take (length text - k) (drop k text) ≡ drop k text
 rest k text = take_all (length text - k) (drop k text) (simp length-drop (omega arith))
 
--- a byte's place in the whole text
-pub place : (b : ℕ) (text : List ℕ) (p : ℕ) → p ≡ 0 + index_of b (slice 0 (length text) text) → p ≡ index_of b text
-unfolding slice
-place b text p e = e ∙ ap (λ (l : List ℕ). 0 + index_of b l) (take-length text) ∙ omega arith
-
 -- a percentage by where its point stands and what stands before it
-pub decimal_is : (text : List ℕ) (p : ℕ) (whole : Parsed) → p ≡ 0 + index_of 46 (slice 0 (length text) text) → whole ≡ parsed (take p text) → decimal_of text ≡ whole_first text p whole
+pub decimal_is : (text : List ℕ) (p : ℕ) (whole : Parsed) → p ≡ index_of 46 text → whole ≡ parsed (take p text) → decimal_of text ≡ whole_first text p whole
 unfolding decimal_of
-decimal_is text p whole e f = rw (f, place 46 text p e)
+decimal_is text p whole e f = rw (f, e)

@@ -1,7 +1,6 @@
 -- What the definitions say of a few texts and bytes.
 use Rattle.std.proofs.Common.{◌≡◌, false, [], ◌∷◌, negsuc, refl}
 use lib.Ieee.{fin, div, of_int}
-use Rattle.bytes.specs.Bytes.{index_of, index_after}
 use Rattle.inventory.specs.Lanes.{pack, tabulate}
 use Rattle.find_edge_input.specs.Number.{all_digits, value_from, parsed, ratio_of, after_whole, decimal_of}
 use Rattle.find_edge_input.specs.Words.{packed, word_of}
@@ -34,12 +33,12 @@ too_large = refl
 
 -- 12.5 is 25 / 2
 decimal : decimal_of (49 ∷ 50 ∷ 46 ∷ 53 ∷ []) ≡ DecimalVariants.Value (fin false 25 (negsuc 0))
-unfolding parsed all_digits value_from decimal_of after_whole ratio_of index_of index_after div of_int
+unfolding parsed all_digits value_from decimal_of after_whole ratio_of div of_int
 decimal = refl
 
 -- 1.2345
 too_fine : decimal_of (49 ∷ 46 ∷ 50 ∷ 51 ∷ 52 ∷ 53 ∷ []) ≡ DecimalVariants.NotANumber
-unfolding parsed all_digits value_from decimal_of after_whole ratio_of index_of index_after
+unfolding parsed all_digits value_from decimal_of after_whole ratio_of
 too_fine = refl
 
 -- nine bytes fill one word and begin the next

@@ -2,8 +2,8 @@
 use Rattle.std.specs.Prelude.{ℕ, ◌+◌, ◌-◌, ◌*◌, ◌^◌, Bool, true, cond, ◌&&◌, List, [], ◌∷◌, length, take, drop, ◌==◌, nat_le, nat_lt, Float}
 use Rattle.std.specs.Float.{binary64}
 use Rattle.std.specs.Float.Ieee.{div}
-use Rattle.bytes.specs.Bytes.{index_of}
 use Rattle.spacing.specs.Spacing.{as_f64}
+use Rattle.find_edge_input.specs.Scan.{index_of}
 use Rattle.find_edge_input.specs.declared.number.Parsed.{Parsed}
 use Rattle.find_edge_input.specs.declared.number.Parsed.TheVariants.{Number, NotANumber, TooLarge}
 use Rattle.find_edge_input.specs.declared.number.Decimal.{Decimal}

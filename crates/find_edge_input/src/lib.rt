@@ -2,7 +2,9 @@
 #![tactic(auto)]
 
 mod number;
+mod scan;
 mod words;
 
 pub use number::{Decimal, Parsed, parse_decimal, parse_number};
+pub use scan::find;
 pub use words::pack;

@@ -2,6 +2,7 @@
 ghost use Rattle.std.specs.Prelude.{◌≡◌, ◌+◌, ◌*◌, ◌^◌, ◌<◌, ◌≤◌, length};
 ghost use Rattle.find_edge_input.specs.Number.{after_whole, all_digits, decimal_of, digit, fitting, joined as joined_of, parsed, ratio_of, value_from};
 
+use crate::scan::find;
 use rank_sel::saturating_sub;
 
 #[derive(Clone, Copy)]
@@ -137,7 +138,7 @@ fn with_decimals(text: &[u8], point: usize, whole: u64) -> Decimal
 pub fn parse_decimal(text: &[u8]) -> Decimal
     ensures { result ≡ decimal_of text.now }
 {
-    let point = bytes::scan::find(text, 0, text.len(), b'.');
+    let point = find(text, b'.');
     match parse_number(&text[..point]) {
         Parsed::NotANumber => Decimal::NotANumber,
         Parsed::TooLarge => Decimal::TooLarge,

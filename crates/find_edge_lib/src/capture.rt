@@ -1,26 +1,60 @@
 // Reads the capture into words.
-use find_edge_input::pack;
+ghost use Rattle.std.specs.Prelude.{◌<◌, length, take, IfOk};
+ghost use Rattle.std.specs.Io.KnownBytes.{Consumes, IsAtEnd};
+ghost use Rattle.find_edge_lib.specs.Arguments.{IsPrefixLen};
 
-#[derive(Drop)]
+use find_edge_input::pack;
+use std::io;
+use std::io::{ErrorKind, Read};
+
+#[derive(Clone, Copy)]
 pub enum Capture {
     Samples(u64),
     TooLong,
     Failed,
 }
 
-#[derive(Drop)]
+#[derive(Clone, Copy)]
 enum Chunk {
     Bytes(usize),
     TooLong,
+    Failed,
 }
 
-// The size of io's large buffer: whole words, so that each chunk but the last fills its words.
+// Whole words, so that each chunk but the last fills its words.
 const CHUNK: usize = 65536;
 
+// Reads until the buffer is full or the input ends, and answers how many bytes of the buffer it filled: fewer than all only at
+// the end.
+pub fn read_full<R: Read>(file: &mut R, buffer: &mut [u8]) -> io::Result<usize>
+    ensures within { IfOk result (λ n. IsPrefixLen n buffer.new) }
+    ensures bytes { IfOk result (λ n. Consumes (R.remaining file.old) (R.remaining file.new) (take n buffer.new)) }
+    ensures end { IfOk result (λ n. n < length buffer.new → IsAtEnd (R.remaining file.new)) }
+{
+    let mut filled = 0;
+    for _ in 0..u64::MAX {
+        if filled == buffer.len() {
+            return Ok(filled);
+        }
+        match file.read(&mut buffer[filled..]) {
+            Ok(0) => return Ok(filled),
+            Ok(n) => filled += n,
+            Err(error) => {
+                if error.kind() != ErrorKind::Interrupted {
+                    return Err(error);
+                }
+            }
+        }
+    }
+    Err(io::Error::from(ErrorKind::TimedOut))
+}
+
 // Reads a chunk into the words from `at` on, where they hold it.
-fn read_chunk(fd: i32, words: &mut [u64], at: usize) -> Chunk {
-    let mut chunk = io::large_buffer();
-    let n = io::read_full(fd, &mut chunk);
+fn read_chunk(file: &mut impl Read, words: &mut [u64], at: usize) -> Chunk {
+    let mut chunk = [0u8; CHUNK];
+    let Ok(n) = read_full(file, &mut chunk) else {
+        return Chunk::Failed;
+    };
     if at > words.len() {
         return Chunk::TooLong;
     }
@@ -31,30 +65,20 @@ fn read_chunk(fd: i32, words: &mut [u64], at: usize) -> Chunk {
     Chunk::Bytes(n)
 }
 
-// read_full stops short at the end of the input and where a read fails: one more read tells them apart.
-pub fn is_at_end(fd: i32) -> bool {
-    let mut one = [0u8; 1];
-    libc::read(fd, &mut one) == 0
-}
-
-fn ended(fd: i32, samples: u64) -> Capture {
-    if is_at_end(fd) {
-        return Capture::Samples(samples);
-    }
-    Capture::Failed
-}
-
 // Reads the capture to its end. The loop's bound is out of reach of any memory: the words end it first.
-pub fn read_capture(fd: i32, words: &mut [u64]) -> Capture {
+pub fn read_capture(file: &mut impl Read, words: &mut [u64]) -> Capture {
     let mut at = 0;
     while at < 0x1_0000_0000_0000 {
-        match read_chunk(fd, words, at) {
+        match read_chunk(file, words, at) {
             Chunk::TooLong => {
                 return Capture::TooLong;
             }
+            Chunk::Failed => {
+                return Capture::Failed;
+            }
             Chunk::Bytes(n) => {
                 if n < CHUNK {
-                    return ended(fd, (64 * at + 8 * n) as u64);
+                    return Capture::Samples((64 * at + 8 * n) as u64);
                 }
             }
         }

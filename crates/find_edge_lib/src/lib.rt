@@ -13,9 +13,15 @@ pub use capture::{Capture, read_capture};
 use edge_index::{
     Answer, Built, Checked, Choice, Polarity, Summary, build, check as check_index, dwell, select,
 };
-use libc::{STDERR_FILENO, STDOUT_FILENO};
 pub use report::refused;
 use saved::{Indexed, open_index, save_index};
+use std::env::Env;
+use std::io;
+use std::io::Read;
+use std::rt::Files;
+
+// The bytes that the arguments may take in all.
+const ARGUMENT_BYTES: usize = 65536;
 
 // The line of one edge; false where there is none, and the error line is written.
 fn show_edge(
@@ -24,23 +30,23 @@ fn show_edge(
     inventory: &[u64],
     spill: &[u64],
     rank: u64,
-    out: i32,
-    err: i32,
-) -> bool {
+    out: &impl Print,
+    err: &impl Print,
+) -> io::Result<bool> {
     let plan = summary.plan;
     let polarity = plan.polarity;
     match select(words, summary, inventory, spill, rank) {
         Answer::Value(sample) => {
-            report::edge_line(out, polarity, rank, sample);
-            true
+            report::edge_line(out, polarity, rank, sample)?;
+            Ok(true)
         }
         Answer::Refused(refusal) => {
             if rank >= plan.num {
-                report::no_such_edge(err, rank, plan.num);
-                return false;
+                report::no_such_edge(err, rank, plan.num)?;
+                return Ok(false);
             }
-            refused(err, refusal);
-            false
+            refused(err, refusal)?;
+            Ok(false)
         }
     }
 }
@@ -52,17 +58,17 @@ fn show_period(
     spill: &[u64],
     a: u64,
     b: u64,
-    out: i32,
-    err: i32,
-) -> bool {
+    out: &impl Print,
+    err: &impl Print,
+) -> io::Result<bool> {
     match dwell(words, summary, inventory, spill, a, b) {
         Answer::Value(samples) => {
-            report::period_line(out, samples);
-            true
+            report::period_line(out, samples)?;
+            Ok(true)
         }
         Answer::Refused(refusal) => {
-            refused(err, refusal);
-            false
+            refused(err, refusal)?;
+            Ok(false)
         }
     }
 }
@@ -75,17 +81,17 @@ fn show_next(
     spill: &[u64],
     edges: &[u64; MOST_EDGES],
     i: usize,
-    out: i32,
-    err: i32,
-) -> bool
+    out: &impl Print,
+    err: &impl Print,
+) -> io::Result<bool>
     requires { i < 1024 }
 {
     let rank = edges[i];
-    if !show_edge(words, summary, inventory, spill, rank, out, err) {
-        return false;
+    if !show_edge(words, summary, inventory, spill, rank, out, err)? {
+        return Ok(false);
     }
     if i == 0 {
-        return true;
+        return Ok(true);
     }
     show_period(
         words,
@@ -106,19 +112,18 @@ fn show_edges(
     spill: &[u64],
     edges: &[u64; MOST_EDGES],
     n: usize,
-    out: i32,
-    err: i32,
-) {
-    let mut i = 0;
-    while i < MOST_EDGES {
+    out: &impl Print,
+    err: &impl Print,
+) -> io::Result<()> {
+    for i in 0..MOST_EDGES {
         if i >= n {
-            return;
+            break;
         }
-        if !show_next(words, summary, inventory, spill, edges, i, out, err) {
-            return;
+        if !show_next(words, summary, inventory, spill, edges, i, out, err)? {
+            break;
         }
-        i += 1;
     }
+    Ok(())
 }
 
 // The count, then the edges asked for, or what the index is like.
@@ -129,18 +134,16 @@ fn show(
     spill: &[u64],
     edges: &[u64; MOST_EDGES],
     n: usize,
-    out: i32,
-    err: i32,
-) {
+    out: &impl Print,
+    err: &impl Print,
+) -> io::Result<()> {
     let plan = summary.plan;
-    let polarity = plan.polarity;
-    report::count_line(out, polarity, plan.num);
+    report::count_line(out, plan.polarity, plan.num)?;
     if n > 0 {
-        show_edges(words, summary, inventory, spill, edges, n, out, err);
-        return;
+        return show_edges(words, summary, inventory, spill, edges, n, out, err);
     }
-    report::spacing_line(out, plan);
-    report::cells_line(out, summary.inventory_len, summary.spill_len);
+    report::spacing_line(out, plan)?;
+    report::cells_line(out, summary.inventory_len, summary.spill_len)
 }
 
 fn polarity_of(is_zeros: bool) -> Polarity {
@@ -151,86 +154,81 @@ fn polarity_of(is_zeros: bool) -> Polarity {
 }
 
 // Whether the check says yes; where it does not, the error line is written.
-fn passes(
-    request: Request,
+fn passes<F>(
+    request: &Request<F>,
     words: &[u64],
     len: u64,
     summary: Summary,
     inventory: &[u64],
     spill: &[u64],
-    err: i32,
-) -> bool {
+    err: &impl Print,
+) -> io::Result<bool> {
     let polarity = polarity_of(request.is_zeros);
-    let choice = request.choice;
     match check_index(
         words,
         len,
         request.origin,
         polarity,
-        choice,
+        request.choice,
         summary,
         inventory,
         spill,
     ) {
-        Checked::Yes => true,
+        Checked::Yes => Ok(true),
         Checked::No => {
-            report::not_checked(err, request.has_index);
-            false
+            report::not_checked(err, request.index.is_some())?;
+            Ok(false)
         }
         Checked::Refused(refusal) => {
-            refused(err, refusal);
-            false
+            refused(err, refusal)?;
+            Ok(false)
         }
     }
 }
 
-fn build_index(
-    request: Request,
+fn build_index<F>(
+    request: &Request<F>,
     words: &[u64],
     len: u64,
     inventory: &mut [u64],
     spill: &mut [u64],
-    err: i32,
-) -> Indexed {
+    err: &impl Print,
+) -> io::Result<Indexed> {
     let polarity = polarity_of(request.is_zeros);
-    let choice = request.choice;
     match build(
         words,
         len,
         request.origin,
         polarity,
-        choice,
+        request.choice,
         inventory,
         spill,
     ) {
-        Built::Summary(summary) => Indexed::Summary(summary),
+        Built::Summary(summary) => Ok(Indexed::Summary(summary)),
         Built::Refused(refusal) => {
-            refused(err, refusal);
-            Indexed::Stop
+            refused(err, refusal)?;
+            Ok(Indexed::Stop)
         }
     }
 }
 
 // The samples asked for, or all of them.
-fn samples_of(has_samples: bool, samples: u64, all: u64) -> u64 {
-    if has_samples {
-        return samples;
-    }
-    all
+fn samples_of(samples: Option<u64>, all: u64) -> u64 {
+    samples.unwrap_or(all)
 }
 
 // The index of a record of `len` samples: from its file, or built.
-fn index_of(
-    request: Request,
+fn index_of<F: Read>(
+    request: &mut Request<F>,
     words: &[u64],
     len: u64,
     inventory: &mut [u64],
     spill: &mut [u64],
     image: &mut [u8],
-    err: i32,
-) -> Indexed {
-    if request.has_index {
-        return open_index(request.index_fd, image, inventory, spill, err);
+    err: &impl Print,
+) -> io::Result<Indexed> {
+    if let Some(file) = &mut request.index {
+        return open_index(file, image, inventory, spill, err);
     }
     build_index(request, words, len, inventory, spill, err)
 }
@@ -244,26 +242,28 @@ fn name_in(args: &[u8], from: usize, to: usize) -> &[u8] {
 }
 
 // Saves the index where that is asked for; false where it fails.
-fn save(
-    request: Request,
+fn save<R: Files>(
+    rt: &R,
+    request: &Request<R::File>,
     args: &[u8],
     summary: Summary,
     inventory: &[u64],
     spill: &[u64],
     image: &mut [u8],
-    out: i32,
-    err: i32,
-) -> bool {
-    if !request.has_save {
-        return true;
-    }
-    let name = name_in(args, request.save_from, request.save_to);
-    save_index(name, summary, inventory, spill, image, out, err)
+    out: &impl Print,
+    err: &impl Print,
+) -> io::Result<bool> {
+    let Some((from, to)) = request.save else {
+        return Ok(true);
+    };
+    let name = name_in(args, from, to);
+    save_index(rt, name, summary, inventory, spill, image, out, err)
 }
 
 // No jump before the check says yes, and nothing is saved.
-fn present(
-    request: Request,
+fn present<R: Files>(
+    rt: &R,
+    request: &Request<R::File>,
     args: &[u8],
     words: &[u64],
     len: u64,
@@ -272,13 +272,15 @@ fn present(
     spill: &[u64],
     image: &mut [u8],
     edges: &[u64; MOST_EDGES],
-    out: i32,
-    err: i32,
-) {
-    if !passes(request, words, len, summary, inventory, spill, err) {
-        return;
+    out: &impl Print,
+    err: &impl Print,
+) -> io::Result<()> {
+    if !passes(request, words, len, summary, inventory, spill, err)? {
+        return Ok(());
     }
-    if save(request, args, summary, inventory, spill, image, out, err) {
+    if save(
+        rt, request, args, summary, inventory, spill, image, out, err,
+    )? {
         show(
             words,
             summary,
@@ -288,12 +290,14 @@ fn present(
             request.edges,
             out,
             err,
-        );
+        )?;
     }
+    Ok(())
 }
 
-fn answer_request(
-    request: Request,
+fn answer_request<R: Files>(
+    rt: &R,
+    request: &mut Request<R::File>,
     args: &[u8],
     words: &[u64],
     all: u64,
@@ -301,75 +305,98 @@ fn answer_request(
     spill: &mut [u64],
     image: &mut [u8],
     edges: &[u64; MOST_EDGES],
-    out: i32,
-    err: i32,
-) {
-    let len = samples_of(request.has_samples, request.samples, all);
+    out: &impl Print,
+    err: &impl Print,
+) -> io::Result<()> {
+    let len = samples_of(request.samples, all);
     if len > all {
-        report::too_many_samples(err, len, all);
-        return;
+        return report::too_many_samples(err, len, all);
     }
-    match index_of(request, words, len, inventory, spill, image, err) {
+    match index_of(request, words, len, inventory, spill, image, err)? {
         Indexed::Summary(summary) => present(
-            request, args, words, len, summary, inventory, spill, image, edges, out, err,
+            rt, request, args, words, len, summary, inventory, spill, image, edges, out, err,
         ),
-        Indexed::Stop => {}
+        Indexed::Stop => Ok(()),
     }
 }
 
-fn run_request(
-    request: Request,
+// The capture, from its file or from standard input.
+fn capture_of<R: Files + Input>(
+    rt: &R,
+    request: &mut Request<R::File>,
+    words: &mut [u64],
+) -> Capture {
+    match &mut request.file {
+        Some(file) => read_capture(file, words),
+        None => read_capture(&mut rt.reader(), words),
+    }
+}
+
+fn run_request<R: Files + Input>(
+    rt: &R,
+    mut request: Request<R::File>,
     args: &[u8],
     words: &mut [u64],
     inventory: &mut [u64],
     spill: &mut [u64],
     image: &mut [u8],
     edges: &[u64; MOST_EDGES],
-    out: i32,
-    err: i32,
-) {
-    match read_capture(request.fd, words) {
+    out: &impl Print,
+    err: &impl Print,
+) -> io::Result<()> {
+    match capture_of(rt, &mut request, words) {
         Capture::TooLong => report::too_long(err, words.len()),
         Capture::Failed => report::not_read(err),
         Capture::Samples(all) => answer_request(
-            request, args, words, all, inventory, spill, image, edges, out, err,
+            rt,
+            &mut request,
+            args,
+            words,
+            all,
+            inventory,
+            spill,
+            image,
+            edges,
+            out,
+            err,
         ),
     }
 }
 
 // The program: arguments that end in a zero byte each, buffers, and where lines and error lines go.
-pub fn find_edge(
+pub fn find_edge<R: Files + Input>(
+    rt: &R,
     args: &[u8],
     words: &mut [u64],
     inventory: &mut [u64],
     spill: &mut [u64],
     image: &mut [u8],
-    out: i32,
-    err: i32,
-) {
+    out: &impl Print,
+    err: &impl Print,
+) -> io::Result<()> {
     let mut edges = [0u64; MOST_EDGES];
-    match parse_arguments(args, &mut edges, err) {
+    match parse_arguments(rt, args, &mut edges, err)? {
         Asked::Request(request) => run_request(
-            request, args, words, inventory, spill, image, &edges, out, err,
+            rt, request, args, words, inventory, spill, image, &edges, out, err,
         ),
         Asked::Help => report::usage(out),
-        Asked::Stop => {}
+        Asked::Stop => Ok(()),
     }
 }
 
 // The same on the arguments that the program was started with.
-pub fn run(words: &mut [u64], inventory: &mut [u64], spill: &mut [u64], image: &mut [u8]) {
-    let mut args = io::large_buffer();
-    match gather(&mut args) {
-        Gathered::Full => report::too_many_arguments(STDERR_FILENO),
-        Gathered::Bytes(n) => find_edge(
-            &args[..n],
-            words,
-            inventory,
-            spill,
-            image,
-            STDOUT_FILENO,
-            STDERR_FILENO,
-        ),
+pub fn run<R: Env + Files + Input>(
+    rt: &R,
+    words: &mut [u64],
+    inventory: &mut [u64],
+    spill: &mut [u64],
+    image: &mut [u8],
+    out: &impl Print,
+    err: &impl Print,
+) -> io::Result<()> {
+    let mut args = [0u8; ARGUMENT_BYTES];
+    match gather(rt, &mut args) {
+        Gathered::Full => report::too_many_arguments(err),
+        Gathered::Bytes(n) => find_edge(rt, &args[..n], words, inventory, spill, image, out, err),
     }
 }
