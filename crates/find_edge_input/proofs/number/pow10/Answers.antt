@@ -1,0 +1,18 @@
+-- The tests tell k, and past them it is 3; each power is computed.
+use Rattle.std.proofs.Common.{◌≡◌, arith}
+use Rattle.find_edge_input.proofs.number.pow10.Goals as goal
+
+pub returns-then-k-eq0 : goal.returns-then-k-eq0
+returns-then-k-eq0 c =
+    (rw c.if-k-eq0.true, omega arith)
+
+pub returns-then-k-eq1 : goal.returns-then-k-eq1
+returns-then-k-eq1 c =
+    (rw c.if-k-eq1.true, omega arith)
+
+pub returns-then-k-eq2 : goal.returns-then-k-eq2
+returns-then-k-eq2 c =
+    (rw c.if-k-eq2.true, omega arith)
+-- returns-4 : tie.Need-returns-4
+
+returns-4 c = let e : c.before.before.before.args.k ≡ 3 = omega arith in (rw e, omega arith)
