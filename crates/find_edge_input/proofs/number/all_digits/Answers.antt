@@ -1,5 +1,4 @@
-use Rattle.std.proofs.Common.{◌-◌, sym, refl, ◌∙◌, arith}
-use borrow.Author.Tests.{not-true, not-false}
+use Rattle.std.proofs.Common.{sym, refl, ◌∙◌, arith}
 use Rattle.find_edge_input.proofs.Digits.{digits_stop, digits_go, digits_end}
 use Rattle.find_edge_input.proofs.number.all_digits.Goals as goal
 
@@ -9,11 +8,11 @@ loop-i-init c =
 
 pub returns-then-not-is_digit : goal.returns-then-not-is_digit
 returns-then-not-is_digit c =
-    digits_stop c.args.text.now c.loop-i.i c.is_digit.result (omega arith) c.is_digit.ensures c.loop-i.invariant.1 (not-true c.is_digit.result c.if-not-is_digit.true)
+    digits_stop c.args.text.now c.loop-i.i c.is_digit.result (omega arith) c.is_digit.ensures c.loop-i.invariant.1 c.if-not-is_digit.true
 
 pub loop-i-preserved : goal.loop-i-preserved
 loop-i-preserved c =
-    (omega arith, digits_go c.args.text.now c.loop-i.i c.is_digit.result (omega arith) c.is_digit.ensures c.loop-i.invariant.1 (not-false c.is_digit.result c.if-not-is_digit.false))
+    (omega arith, digits_go c.args.text.now c.loop-i.i c.is_digit.result (omega arith) c.is_digit.ensures c.loop-i.invariant.1 c.if-not-is_digit.false)
 
 pub returns : goal.returns
 returns c =

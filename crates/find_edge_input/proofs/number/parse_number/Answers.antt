@@ -1,6 +1,5 @@
 -- An empty text and one that is not all digits are no numbers; past both tests the number is what `value` returns.
 use Rattle.std.proofs.Common.{sym, ◌∙◌, eq-eqb, ne_eqb}
-use borrow.Author.Tests.{not-true, not-false}
 use Rattle.find_edge_input.specs.Number.{parsed}
 use Rattle.find_edge_input.proofs.number.parse_number.Goals as goal
 
@@ -12,9 +11,9 @@ returns-then-text-eq0 c =
 pub returns-then-not-all_digits : goal.returns-then-not-all_digits
 unfolding parsed
 returns-then-not-all_digits c =
-    simp (ne_eqb _ _ c.if-text-eq0.false, sym c.all_digits.ensures ∙ not-true c.all_digits.result c.if-not-all_digits.true)
+    simp (ne_eqb _ _ c.if-text-eq0.false, sym c.all_digits.ensures ∙ c.if-not-all_digits.true)
 
 pub returns : goal.returns
 unfolding parsed
 returns c =
-    simp (ne_eqb _ _ c.if-text-eq0.false, sym c.all_digits.ensures ∙ not-false c.all_digits.result c.if-not-all_digits.false, c.value.ensures)
+    simp (ne_eqb _ _ c.if-text-eq0.false, sym c.all_digits.ensures ∙ c.if-not-all_digits.false, c.value.ensures)

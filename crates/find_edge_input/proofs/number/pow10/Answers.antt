@@ -13,6 +13,6 @@ returns-then-k-eq1 c =
 pub returns-then-k-eq2 : goal.returns-then-k-eq2
 returns-then-k-eq2 c =
     (rw c.if-k-eq2.true, omega arith)
--- returns-4 : tie.Need-returns-4
 
-returns-4 c = let e : c.before.before.before.args.k ≡ 3 = omega arith in (rw e, omega arith)
+pub returns : goal.returns
+returns c = let e : c.args.k ≡ 3 = omega arith in (rw e, omega arith)

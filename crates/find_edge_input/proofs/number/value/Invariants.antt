@@ -1,5 +1,5 @@
 -- The number so far and the digits from i on make the text's value. Where the next digit makes it too large, so is the whole,
--- since more digits make it no smaller (`value-over`).
+-- since more digits make it no smaller (`value_over`).
 use Rattle.std.proofs.Common.{◌≡◌, ◌-◌, ◌<◌, ◌≤◌, length, drop}
 use Rattle.find_edge_input.specs.Number.{value_from}
 use Rattle.find_edge_input.proofs.number.value.Given as goal

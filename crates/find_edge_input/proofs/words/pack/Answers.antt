@@ -1,4 +1,4 @@
-use Rattle.std.proofs.Common.{◌≡◌, ℕ, ◌-◌, List, length, set, refl, ap, ◌∙◌, arith, length-set}
+use Rattle.std.proofs.Common.{◌≡◌, ℕ, List, length, set, refl, ap, ◌∙◌, arith, length-set}
 use Rattle.rank_sel.specs.Numbers.{ceil_div}
 use Rattle.inventory.specs.Lanes.{tabulate}
 use Rattle.inventory.proofs.Lanes.{tab_more}

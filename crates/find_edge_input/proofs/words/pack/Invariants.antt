@@ -1,4 +1,4 @@
--- After i turns the first i words are those of the bytes, and the others as they were; each turn writes one more (`tab-more`).
+-- After i turns the first i words are those of the bytes, and the others as they were; each turn writes one more (`tab_more`).
 use Rattle.std.proofs.Common.{◌≡◌, ◌-◌, ◌≤◌, ◌++◌, length, drop}
 use Rattle.inventory.specs.Lanes.{tabulate}
 use Rattle.find_edge_input.specs.Words.{word_of}

@@ -1,4 +1,4 @@
-use Rattle.std.proofs.Common.{◌≡◌, ◌+◌, ◌-◌, ◌*◌, get_or, sym, refl, ap, ◌∙◌, arith}
+use Rattle.std.proofs.Common.{◌≡◌, ◌+◌, ◌*◌, get_or, sym, refl, ap, ◌∙◌, arith}
 use Rattle.inventory.specs.Lanes.{pack}
 use Rattle.inventory.proofs.Lanes.{pack-zero, cell_fits, cell_more}
 use Rattle.find_edge_input.specs.Words.{word_of}

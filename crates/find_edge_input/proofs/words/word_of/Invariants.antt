@@ -1,4 +1,4 @@
--- After j turns the word holds the first j bytes as lanes of 8 bits; the next one fits above them (`cell-fits`, `cell-more`).
+-- After j turns the word holds the first j bytes as lanes of 8 bits; the next one fits above them (`cell_fits`, `cell_more`).
 use Rattle.std.proofs.Common.{◌≡◌, ◌+◌, ◌-◌, ◌*◌, ◌≤◌, get_or}
 use Rattle.inventory.specs.Lanes.{pack}
 use Rattle.find_edge_input.proofs.words.word_of.Given as goal
