@@ -1,4 +1,4 @@
-/* Decklerose: the edge index, for C. Implemented and proved in crates/edge_index_c; `rt staticlib edge_index_c` writes
+/* Decklerose: the edge index, for C. Implemented and proved in crates/edge_index_c; `sh tools/staticlib.sh` writes
  * target/staticlib/libedge_index_c.a, which needs nothing but the C library (of which it calls memset). x86-64 Linux.
  *
  * Every call returns 0, or the number of the refusal that turned it down (1 to 16, below), or EDGE_INDEX_BAD_CODE for a

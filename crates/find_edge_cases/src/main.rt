@@ -3,7 +3,8 @@
 #![tactic(auto)]
 
 use edge_index::REFUSALS;
-use find_edge_lib::{find_edge, refused};
+use find_edge_input::find;
+use find_edge_lib::{find_edge, read_full, refused};
 use std::rt::Files;
 use std::{fs, io};
 
@@ -18,30 +19,34 @@ fn to_arguments(line: &mut [u8]) {
     }
 }
 
-fn run_case<R: Files + Input + Print + AllocGlobal>(
+fn run_case<R: Files + Input + Print>(
     rt: &R,
-    line: &str,
+    line: &mut [u8],
     words: &mut [u64],
     inventory: &mut [u64],
     spill: &mut [u64],
     image: &mut [u8],
 ) -> io::Result<()> {
-    println!(rt; "$ find_edge {line}")?;
-    let mut args = Vec::from_slice(rt.alloc(), line.as_bytes())?;
-    to_arguments(&mut args);
-    find_edge(rt, &args, words, inventory, spill, image, rt, rt)
+    rt.write_all(b"$ find_edge ")?;
+    rt.write_all(line)?;
+    rt.write_all(b"\n")?;
+    to_arguments(line);
+    find_edge(rt, line, words, inventory, spill, image, rt, rt)
 }
 
-fn run_cases<R: Files + Input + Print + AllocGlobal>(
+fn run_cases<R: Files + Input + Print>(
     rt: &R,
-    text: &str,
+    text: &mut [u8],
     words: &mut [u64],
     inventory: &mut [u64],
     spill: &mut [u64],
     image: &mut [u8],
 ) -> io::Result<()> {
-    for line in text.lines() {
-        run_case(rt, line, words, inventory, spill, image)?;
+    let mut from = 0;
+    while from < text.len() {
+        let to = from + find(&text[from..], b'\n');
+        run_case(rt, &mut text[from..to], words, inventory, spill, image)?;
+        from = to + 1;
     }
     Ok(())
 }
@@ -55,15 +60,15 @@ fn refusals(out: &impl Print) -> io::Result<()> {
 }
 
 fn main(rt: HostRuntime) -> io::Result<()> {
-    let alloc = rt.alloc();
-    let mut words = vec![in alloc; 0u64; 524288]?;
-    let mut inventory = vec![in alloc; 0u64; 131072]?;
+    let mut words = [0u64; 524288];
+    let mut inventory = [0u64; 131072];
     let mut spill = [0u64; 1];
     let mut image = [0u8; 4096];
-    let text = fs::read_to_string(&rt, "cases")?;
+    let mut text = [0u8; 65536];
+    let n = read_full(&mut fs::open(&rt, "cases")?, &mut text)?;
     run_cases(
         &rt,
-        &text,
+        &mut text[..n],
         &mut words,
         &mut inventory,
         &mut spill,

@@ -9,7 +9,7 @@ mod report;
 mod saved;
 
 use arguments::{Asked, Gathered, MOST_EDGES, Request, gather, parse_arguments};
-pub use capture::{Capture, read_capture};
+pub use capture::{Capture, read_capture, read_full};
 use edge_index::{
     Answer, Built, Checked, Choice, Polarity, Summary, build, check as check_index, dwell, select,
 };
