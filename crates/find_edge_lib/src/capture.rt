@@ -5,7 +5,7 @@ ghost use Rattle.find_edge_lib.specs.Arguments.{IsPrefixLen};
 
 use find_edge_input::pack;
 use std::io;
-use std::io::{ErrorKind, Read};
+use std::io::Read;
 
 #[derive(Clone, Copy)]
 pub enum Capture {
@@ -32,21 +32,14 @@ pub fn read_full<R: Read>(file: &mut R, buffer: &mut [u8]) -> io::Result<usize>
     ensures end { IfOk result (λ n. n < length buffer.new → IsAtEnd (R.remaining file.new)) }
 {
     let mut filled = 0;
-    for _ in 0..u64::MAX {
-        if filled == buffer.len() {
+    while filled < buffer.len() {
+        let n = file.read(&mut buffer[filled..])?;
+        if n == 0 {
             return Ok(filled);
         }
-        match file.read(&mut buffer[filled..]) {
-            Ok(0) => return Ok(filled),
-            Ok(n) => filled += n,
-            Err(error) => {
-                if error.kind() != ErrorKind::Interrupted {
-                    return Err(error);
-                }
-            }
-        }
+        filled += n;
     }
-    Err(io::Error::from(ErrorKind::TimedOut))
+    Ok(filled)
 }
 
 // Reads a chunk into the words from `at` on, where they hold it.

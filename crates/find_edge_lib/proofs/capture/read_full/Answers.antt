@@ -1,13 +1,11 @@
--- A read goes on where the last one ended, so that what is filled and what was read join; a read that was cut short by a signal
--- leaves what is filled as it was.
+-- A read goes on where the last one ended, so that what is filled and what was read join.
 use Rattle.std.proofs.Common.{◌≡◌, ℕ, ◌+◌, ◌-◌, ◌≤◌, List, ◌++◌, rules, arith, length, take, slice_range, sym, ap, ◌∙◌, subst, le_refl, drop_at, length-take-le}
 use Rattle.std.proofs.lemmas.Slice.{take-put_mid_below}
 use Rattle.std.specs.Io.KnownBytes.{Consumes}
-use Rattle.std.proofs.KnownBytes.{Consumes-trans, Consumes-kept}
+use Rattle.std.proofs.KnownBytes.{Consumes-trans}
 use borrow.Rule.Slice.PartMut.{put_mid, post_of}
 use lib.Seq.{take-add, take-append-le}
 use Rattle.find_edge_lib.proofs.capture.read_full.Goals as goal
-use Rattle.find_edge_lib.proofs.capture.read_full.Goals.{in-Ok, in-Err+else-ne}
 
 take_split : (a b : ℕ) (old new : List ℕ) → a ≤ b → take a new ≡ take a old → take a old ++ slice_range new a b ≡ take b new
 take_split a b old new h front =
@@ -20,18 +18,17 @@ slice_range-put_mid a k n xs ys within fits =
     let after = post_of a k xs in
     ap (take ((a + n) - a)) (drop_at (take a xs) (ys ++ after) a (length-take-le a xs within)) ∙ ap (λ m. take m (ys ++ after)) same ∙ take-append-le n ys after fits
 
-pub loop-preserved : goal.loop-preserved
-loop-preserved g c =
-    let from = c.loop.filled in
-    let room = length c.loop.buffer - from in
-    let within = c.loop.invariant.1 in
-    let kept : take from (put_mid from room c.loop.buffer c.read.new.buf) ≡ take from c.loop.buffer = take-put_mid_below _ _ _ _ _ (le_refl _) within in
-    elim c.match-read.branch [
-      | in-Ok w ↦
-          (let n = w.in-Ok.n in
-          let part = slice_range-put_mid from room n c.loop.buffer c.read.new.buf within w.in-Ok.ensures.bound.0 in
-          let joined = take_split from (from + n) c.loop.buffer (put_mid from room c.loop.buffer c.read.new.buf) (omega arith) kept in
-          (search rules, rw w.filled-is (search rules), rw w.filled-is (subst (Consumes _ _) (ap (λ l. take from c.loop.buffer ++ l) (sym part) ∙ joined) (Consumes-trans _ _ _ _ _ c.loop.invariant.2 w.in-Ok.ensures.bytes.0))))
-      | in-Err+else-ne w ↦
-          (search rules, rw w.filled-is (search rules), rw w.filled-is (subst (Consumes _ _) (sym kept) (Consumes-kept _ _ _ _ c.loop.invariant.2 w.in-Err.ensures.bytes)))
-    ]
+pub loop-filled-preserved : goal.loop-filled-preserved
+loop-filled-preserved g c =
+    let from = c.loop-filled.filled in
+    let room = length c.loop-filled.buffer - from in
+    let n = c.in_ok-n.n in
+    let within = c.loop-filled.invariant.1 in
+    let kept : take from (put_mid from room c.loop-filled.buffer c.read.new.buf) ≡ take from c.loop-filled.buffer = take-put_mid_below _ _ _ _ _ (le_refl _) within in
+    let part = slice_range-put_mid from room n c.loop-filled.buffer c.read.new.buf within c.in_ok-n.ensures.bound.0 in
+    let joined = take_split from (from + n) c.loop-filled.buffer (put_mid from room c.loop-filled.buffer c.read.new.buf) (omega arith) kept in (
+      search rules,
+      search rules,
+      subst (Consumes _ _) (ap (λ l. take from c.loop-filled.buffer ++ l) (sym part) ∙ joined)
+          (Consumes-trans _ _ _ _ _ c.loop-filled.invariant.2 c.in_ok-n.ensures.bytes.0),
+    )
