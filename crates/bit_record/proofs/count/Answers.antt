@@ -10,30 +10,28 @@ use Rattle.select_in_word.proofs.Holds.{holds_ones}
 use Rattle.bit_record.specs.Record.{selected, num_selected, of_record, count_of, Admitted}
 use Rattle.bit_record.proofs.Counted.{admitted, from_zero}
 use Rattle.bit_record.proofs.Record.{rank_num, words_most}
-use Rattle.bit_record.proofs.count.Lts.{After-count_words, After-test_record, Past-After-enum_told}
-use Rattle.bit_record.proofs.count.Reads.{Pre, Post}
-use Rattle.bit_record.proofs.count.Tie.{the-claims}
+use Rattle.bit_record.proofs.count.Goals.{After-count_words-total, After-test_record-tested, In-Passed}
 use Rattle.bit_record.proofs.count.Goals as goal
 
 -- the test has spoken
-module _ (c : After-test_record the-claims Pre Post) where
+module _ (c : After-test_record-tested) where
   told : let a = c.args in Tells (of_record a.words.now a.len) c.test_record-tested.result
   told = let a = c.args in record { told = c.test_record-tested.ensures ∙ from_zero a.words.now a.len }
 
 -- it was passed
-module _ (c : Past-After-enum_told the-claims Pre Post) where
+module _ (c : In-Passed) where
   held : Admitted c.args.words.now c.args.len
-  held = admitted _ _ (passed_none (told c.before) c.in-Passed.is)
+  held = admitted _ _ (passed_none (told (goal.at.In-Passed c).After-test_record-tested) c.in-Passed.is)
 
   answers : let a = c.args in
       (n : ℕ) → n ≡ num_selected a.polarity a.words.now a.len → answer n ≡ count_of a.words.now a.len a.polarity
   unfolding count_of
   answers n e =
       let a = c.args in
-      ap answer e ∙ passed_then (told c.before) c.in-Passed.is (answer (num_selected a.polarity a.words.now a.len))
+      ap answer e ∙ passed_then (told (goal.at.In-Passed c).After-test_record-tested) c.in-Passed.is (answer (num_selected a.polarity a.words.now a.len))
 
 -- the whole words are counted
-module _ (c : After-count_words the-claims Pre Post) where
+module _ (c : After-count_words-total) where
   whole : c.count_words-total.result ≡ rank (selected c.args.polarity c.args.words.now c.args.len)
       (64 * (c.args.len / 64))
   whole =
@@ -47,29 +45,29 @@ pub returns-in_default : goal.returns-in_default
 unfolding count_of
 returns-in_default c =
     let a = c.args in
-    stopped_then (told c.before.before.before) c.reason.result c.in_default.is c.reason.ensures
+    stopped_then (told (goal.at.returns-in_default c).After-test_record-tested) c.reason.result c.in_default.is c.reason.ensures
     (answer (num_selected a.polarity a.words.now a.len))
 
 pub count_words-total-requires : goal.count_words-total-requires
 count_words-total-requires c =
-    let h = held c.before in omega (arith, h.short, h.held)
+    let h = held c in omega (arith, h.short, h.held)
 
 pub returns-then-len-eq0 : goal.returns-then-len-eq0
 returns-then-len-eq0 c =
     let a = c.args in
-    answers c.before.before.before c.count_words-total.result
-    (whole c.before.before ∙ rank_num a.polarity a.words.now a.len (64 * (a.len / 64)) (omega arith))
+    answers (goal.at.returns-then-len-eq0 c).In-Passed c.count_words-total.result
+    (whole (goal.at.returns-then-len-eq0 c).After-count_words-total ∙ rank_num a.polarity a.words.now a.len (64 * (a.len / 64)) (omega arith))
 
 pub selected_word-requires : goal.selected_word-requires
 selected_word-requires c =
-    let h = held c.before.before.before in omega (arith, h.short, h.held)
+    let h = held (goal.at.selected_word-requires c).In-Passed in omega (arith, h.short, h.held)
 
 pub overflow_add-result : goal.overflow_add-result
 overflow_add-result c =
     let a = c.args in
     omega (
       arith,
-      (held c.before.before.before.before.before).short,
+      (held (goal.at.overflow_add-result c).In-Passed).short,
       c.count_ones.ensures.most,
       words_most a.polarity a.words.now 0 (a.len / 64) c.count_words-total.result c.count_words-total.ensures,
     )
@@ -79,11 +77,11 @@ returns c =
     let a = c.args in
     let f = selected a.polarity a.words.now a.len in
     let h = holds_ones 64 f (64 * (a.len / 64)) c.selected_word.result c.selected_word.ensures in
-    answers c.before.before.before.before.before _
+    answers (goal.at.returns c).In-Passed _
     (omega (
       arith,
       h,
-      whole c.before.before.before.before,
+      whole (goal.at.returns c).After-count_words-total,
       c.count_ones.ensures.exact,
       rank_num a.polarity a.words.now a.len (64 * (a.len / 64) + 64) (omega arith),
     ))

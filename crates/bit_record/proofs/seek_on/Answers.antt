@@ -1,13 +1,11 @@
 -- The rest of the word in hand finds the position, or passes its ones: then the words after it are sought for what remains.
 use native.Mathlib.Omega.{arith}
 use Rattle.bit_record.proofs.Seek.{Said, here_small, here_finds, past_less, past_finds}
-use Rattle.bit_record.proofs.seek_on.Lts.{After-seek_near}
-use Rattle.bit_record.proofs.seek_on.Reads.{Pre, Post}
-use Rattle.bit_record.proofs.seek_on.Tie.{the-claims}
+use Rattle.bit_record.proofs.seek_on.Goals.{After-seek_near}
 use Rattle.bit_record.proofs.seek_on.Goals as goal
 
 -- what seeking in the rest of the word says
-module _ (c : After-seek_near the-claims Pre Post) where
+module _ (c : After-seek_near) where
   abbrev Told : Type 0
   Told =
       let a = c.args in
@@ -18,16 +16,16 @@ module _ (c : After-seek_near the-claims Pre Post) where
 
 pub overflow_add-result : goal.overflow_add-result
 overflow_add-result c =
-    omega (arith, here_small _ _ _ _ _ _ _ (told c.before.before) _ c.in-At.is, c.requires.0.short)
+    omega (arith, here_small _ _ _ _ _ _ _ (told (goal.at.overflow_add-result c).After-seek_near) _ c.in-At.is, c.requires.0.short)
 
 pub overflow_sub-k : goal.overflow_sub-k
 overflow_sub-k c =
-    past_less _ _ _ _ _ _ _ (told c.before.before) _ c.in-Past.is
+    past_less _ _ _ _ _ _ _ (told (goal.at.overflow_sub-k c).After-seek_near) _ c.in-Past.is
 
 pub returns-in-At : goal.returns-in-At
 returns-in-At c =
-    here_finds _ _ _ _ _ _ _ (told c.before.before) _ c.in-At.is
+    here_finds _ _ _ _ _ _ _ (told (goal.at.returns-in-At c).After-seek_near) _ c.in-At.is
 
 pub returns-in-Past : goal.returns-in-Past
 returns-in-Past c =
-    past_finds _ _ _ _ _ _ _ (told c.before.before.before) _ c.in-Past.is c.seek_from.result c.seek_from.ensures
+    past_finds _ _ _ _ _ _ _ (told (goal.at.returns-in-Past c).After-seek_near) _ c.in-Past.is c.seek_from.result c.seek_from.ensures

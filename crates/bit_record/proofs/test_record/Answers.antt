@@ -8,12 +8,10 @@ use Rattle.rank_sel.specs.declared.Refusal.TheVariants.{TooFewWords}
 use Rattle.rank_sel.specs.declared.Tested.TheVariants.{Passed, Refused}
 use Rattle.rank_sel.proofs.Outcome.{Tells, passed_none, stops, goes_on}
 use Rattle.bit_record.specs.Record.{too_few_words, of_len}
-use Rattle.bit_record.proofs.test_record.Lts.{After-test_len}
-use Rattle.bit_record.proofs.test_record.Reads.{Pre, Post}
-use Rattle.bit_record.proofs.test_record.Tie.{the-claims}
+use Rattle.bit_record.proofs.test_record.Goals.{After-test_len-numbered}
 use Rattle.bit_record.proofs.test_record.Goals as goal
 
-module _ (c : After-test_len the-claims Pre Post) where
+module _ (c : After-test_len-numbered) where
   abbrev of_words : Conditions
   of_words = let a = c.args in (too_few_words a.words.now a.len, 2) ∷ []
 
@@ -22,19 +20,22 @@ module _ (c : After-test_len the-claims Pre Post) where
 
 pub returns-in_default : goal.returns-in_default
 returns-in_default c =
-    (stops (told c.before.before) (of_words c.before.before) c.in_default.is).told
+    let at_test_len_numbered = (goal.at.returns-in_default c).After-test_len-numbered in
+    (stops (told at_test_len_numbered) (of_words at_test_len_numbered) c.in_default.is).told
 
 pub overflow_add-len : goal.overflow_add-len
 overflow_add-len c =
     let a = c.args in
-    omega (arith, ltb-false (2 ^ 62 - 1) a.len (passed_none (told c.before.before) c.in-Passed.is).0)
+    omega (arith, ltb-false (2 ^ 62 - 1) a.len (passed_none (told (goal.at.overflow_add-len c).After-test_len-numbered) c.in-Passed.is).0)
 
 pub returns-then-words-len : goal.returns-then-words-len
 returns-then-words-len c =
-    (goes_on (told c.before.before.before) (of_words c.before.before.before) {y = Refused TooFewWords} c.in-Passed.is
+    let at_test_len_numbered = (goal.at.returns-then-words-len c).After-test_len-numbered in
+    (goes_on (told at_test_len_numbered) (of_words at_test_len_numbered) {y = Refused TooFewWords} c.in-Passed.is
     (record { told = rw (lt-ltb _ _ c.if-words-len.true) })).told
 
 pub returns : goal.returns
 returns c =
-    (goes_on (told c.before.before.before) (of_words c.before.before.before) {y = Passed} c.in-Passed.is
+    let at_test_len_numbered = (goal.at.returns c).After-test_len-numbered in
+    (goes_on (told at_test_len_numbered) (of_words at_test_len_numbered) {y = Passed} c.in-Passed.is
     (record { told = rw (le-ltb _ _ c.if-words-len.false) })).told

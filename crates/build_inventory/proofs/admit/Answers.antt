@@ -8,28 +8,26 @@ use Rattle.spacing.specs.Spacing.{planned, plan_of}
 use Rattle.spacing.specs.declared.Parameters.{Parameters}
 use Rattle.spacing.proofs.Facts.{plan_facts}
 use Rattle.build_inventory.specs.Build.{build_from, build_of}
-use Rattle.build_inventory.proofs.admit.Lts.{After-plan, After-test_record}
-use Rattle.build_inventory.proofs.admit.Reads.{Pre, Post}
-use Rattle.build_inventory.proofs.admit.Tie.{the-claims}
+use Rattle.build_inventory.proofs.admit.Goals.{After-plan, After-test_record-tested}
 use Rattle.build_inventory.proofs.admit.Goals as goal
 
 -- the record is tested
-module _ (c : After-test_record the-claims Pre Post) where
+module _ (c : After-test_record-tested) where
   record_told : let a = c.args in Tells (of_record_from a.words.now a.len a.origin) c.test_record-tested.result
   record_told = record { told = c.test_record-tested.ensures }
 
 -- it passes, and the plan is made
-module _ (c : After-plan the-claims Pre Post) where
+module _ (c : After-plan) where
   plan_told : let a = c.args in
       planned c.plan.result ≡ refuse_by (of_record_from a.words.now a.len a.origin) (plan_of a.words.now a.len a.polarity a.choice)
-  plan_told = c.plan.ensures ∙ passed_then (record_told c.before.before) c.in-Passed.is _
+  plan_told = c.plan.ensures ∙ passed_then (record_told (goal.at.After-plan c).After-test_record-tested) c.in-Passed.is _
 
 pub returns-in_default : goal.returns-in_default
 unfolding build_of
 returns-in_default c =
     let a = c.args in
     ap (λ (o : Outcome Parameters). and_then o (λ p. build_from a.words.now a.origin p a.cells a.«spill_cells»))
-    (stopped_then (record_told c.before.before.before) c.reason.result c.in_default.is c.reason.ensures _)
+    (stopped_then (record_told (goal.at.returns-in_default c).After-test_record-tested) c.reason.result c.in_default.is c.reason.ensures _)
 
 pub admit_plan-requires : goal.admit_plan-requires
 admit_plan-requires c =
@@ -40,9 +38,9 @@ admit_plan-requires c =
 pub returns-in-Plan : goal.returns-in-Plan
 unfolding build_of
 returns-in-Plan c =
-    rw (← (ap planned (sym c.in-Plan.is) ∙ plan_told c.before.before.before)) c.admit_plan.ensures
+    rw (← (ap planned (sym c.in-Plan.is) ∙ plan_told (goal.at.returns-in-Plan c).After-plan)) c.admit_plan.ensures
 
 pub returns-in-Refused : goal.returns-in-Refused
 unfolding build_of
 returns-in-Refused c =
-    rw (← (ap planned (sym c.in-Refused.is) ∙ plan_told c.before.before))
+    rw (← (ap planned (sym c.in-Refused.is) ∙ plan_told (goal.at.returns-in-Refused c).After-plan))

@@ -5,13 +5,11 @@ use Rattle.rank_sel.specs.Outcome.{Outcome, answer}
 use Rattle.inventory.specs.declared.summary.Summary.{Summary}
 use Rattle.build_inventory.specs.Build.{built, build_of}
 use Rattle.build_inventory.proofs.Outcomes.{Admission, admission, built_as, built_not}
-use Rattle.build_inventory.proofs.build.Lts.{Past-After-known_told}
-use Rattle.build_inventory.proofs.build.Reads.{Pre, Post}
-use Rattle.build_inventory.proofs.build.Tie.{the-claims}
+use Rattle.build_inventory.proofs.build.Goals.{In-Summary}
 use Rattle.build_inventory.proofs.build.Goals as goal
 
 -- with a summary
-module _ (c : Past-After-known_told the-claims Pre Post) where
+module _ (c : In-Summary) where
   abbrev summary : Summary
   summary = c.in-Summary.summary
 
@@ -30,15 +28,16 @@ module _ (c : Past-After-known_told the-claims Pre Post) where
 
 pub fill-requires : goal.fill-requires
 fill-requires c =
-    let m = admits c.before.before.before.before in
+    let m = admits (goal.at.fill-requires c).In-Summary in
     record { plans = m.plans; cells = m.room; spills = m.spill_room }
 
 pub returns-in-Summary : goal.returns-in-Summary
 returns-in-Summary c =
+    let at_summary = (goal.at.returns-in-Summary c).In-Summary in
     let a = c.args in
     let f = c.fill in
-    built_as a.words.now a.inventory.now a.spill.now _ a.origin (summary c.before.before.before.before.before.before.before.before.before) f.new.inventory f.new.spill
-    (answers c.before.before.before.before.before.before.before.before.before) (admits c.before.before.before.before.before.before.before.before.before).is f.ensures
+    built_as a.words.now a.inventory.now a.spill.now _ a.origin (summary at_summary) f.new.inventory f.new.spill
+    (answers at_summary) (admits at_summary).is f.ensures
 
 pub returns-in-Refused : goal.returns-in-Refused
 returns-in-Refused c =

@@ -6,10 +6,7 @@ use Rattle.spacing.specs.Spacing.{N, L, M}
 use Rattle.spacing.specs.declared.Parameters.{Parameters}
 use Rattle.build_inventory.specs.Build.{same_polarity, same_plan}
 use Rattle.build_inventory.proofs.Comparing.{both_yes, both_no}
-use Rattle.build_inventory.proofs.same_plan.Lts.{Joined1, Joined2, Joined3, Joined4}
-use Rattle.build_inventory.proofs.same_plan.Reads.{Pre, Post}
-use Rattle.build_inventory.proofs.same_plan.Tie.{the-claims}
-use Rattle.build_inventory.proofs.same_plan.Goals.{then-same_polarity, else-same_polarity, then-p-q, else-p-q, then-p-q-2, else-p-q-2, then-p-q-3, else-p-q-3}
+use Rattle.build_inventory.proofs.same_plan.Goals.{Joined-p-q, Joined-p-q-2, Joined-p-q-3, Joined-same_polarity, else-p-q, else-p-q-2, else-p-q-3, else-same_polarity, then-p-q, then-p-q-2, then-p-q-3, then-same_polarity}
 use Rattle.build_inventory.proofs.same_plan.Goals as goal
 
 -- the fields up to the first, second, .. number
@@ -27,7 +24,7 @@ module _ (p q : Parameters) where
   upto4 = upto3 && eqb (M p) (M q)
 
 -- what each test leaves
-module _ (c : Joined1 the-claims Pre Post) where
+module _ (c : Joined-same_polarity) where
   left1 : c.if-same_polarity.t-9 ≡ upto1 c.args.p c.args.q
   left1 =
       let e = c.same_polarity.ensures in
@@ -36,28 +33,28 @@ module _ (c : Joined1 the-claims Pre Post) where
         | else-same_polarity w ↦ w.t-9-is ∙ w.if-same_polarity.false ∙ both_no _ _ _ e w.if-same_polarity.false
       ]
 
-module _ (c : Joined2 the-claims Pre Post) where
+module _ (c : Joined-p-q) where
   left2 : c.if-p-q.t-8 ≡ upto2 c.args.p c.args.q
   left2 =
-      let e = left1 c.before in
+      let e = left1 (goal.at.Joined-p-q c).Joined-same_polarity in
       elim c.if-p-q.branch [
         | then-p-q w ↦ both_yes _ _ _ _ e w.if-p-q.true-raw w.t-8-is
         | else-p-q w ↦ w.t-8-is ∙ w.if-p-q.false-raw ∙ both_no _ _ _ e w.if-p-q.false-raw
       ]
 
-module _ (c : Joined3 the-claims Pre Post) where
+module _ (c : Joined-p-q-2) where
   left3 : c.if-p-q-2.t-7 ≡ upto3 c.args.p c.args.q
   left3 =
-      let e = left2 c.before in
+      let e = left2 (goal.at.Joined-p-q-2 c).Joined-p-q in
       elim c.if-p-q-2.branch [
         | then-p-q-2 w ↦ both_yes _ _ _ _ e w.if-p-q-2.true-raw w.t-7-is
         | else-p-q-2 w ↦ w.t-7-is ∙ w.if-p-q-2.false-raw ∙ both_no _ _ _ e w.if-p-q-2.false-raw
       ]
 
-module _ (c : Joined4 the-claims Pre Post) where
+module _ (c : Joined-p-q-3) where
   left4 : c.if-p-q-3.t-6 ≡ upto4 c.args.p c.args.q
   left4 =
-      let e = left3 c.before in
+      let e = left3 (goal.at.Joined-p-q-3 c).Joined-p-q-2 in
       elim c.if-p-q-3.branch [
         | then-p-q-3 w ↦ both_yes _ _ _ _ e w.if-p-q-3.true-raw w.t-6-is
         | else-p-q-3 w ↦ w.t-6-is ∙ w.if-p-q-3.false-raw ∙ both_no _ _ _ e w.if-p-q-3.false-raw
@@ -66,9 +63,9 @@ module _ (c : Joined4 the-claims Pre Post) where
 pub returns-then-p-q-4 : goal.returns-then-p-q-4
 unfolding same_plan
 returns-then-p-q-4 c =
-    both_yes _ _ _ _ (left4 c.before.before.before) c.if-p-q-4.true-raw refl
+    both_yes _ _ _ _ (left4 (goal.at.returns-then-p-q-4 c).Joined-p-q-3) c.if-p-q-4.true-raw refl
 
 pub returns-else-p-q-4 : goal.returns-else-p-q-4
 unfolding same_plan
 returns-else-p-q-4 c =
-    c.if-p-q-4.false-raw ∙ both_no _ _ _ (left4 c.before) c.if-p-q-4.false-raw
+    c.if-p-q-4.false-raw ∙ both_no _ _ _ (left4 (goal.at.returns-else-p-q-4 c).Joined-p-q-3) c.if-p-q-4.false-raw

@@ -7,12 +7,10 @@ use Rattle.read_inventory.specs.Jump.{Part, stored, store_of}
 use Rattle.read_inventory.specs.declared.jump.CellPart.{CellPart}
 use Rattle.edge_index_c.specs.Calls.{Cells, part_numbers, subinventory_c}
 use Rattle.edge_index_c.proofs.Returns.{returned_yes, returned_no}
-use Rattle.edge_index_c.proofs.edge_index_subinventory.Lts.{After-subinventory_part}
-use Rattle.edge_index_c.proofs.edge_index_subinventory.Reads.{Pre, Post}
-use Rattle.edge_index_c.proofs.edge_index_subinventory.Tie.{the-claims}
+use Rattle.edge_index_c.proofs.edge_index_subinventory.Goals.{After-subinventory_part}
 use Rattle.edge_index_c.proofs.edge_index_subinventory.Goals as goal
 
-module _ (c : After-subinventory_part the-claims Pre Post) where
+module _ (c : After-subinventory_part) where
   -- a part as it goes out
   abbrev numbers : CellPart → Outcome Cells
   numbers x = and_then (stored x) (λ p. answer (part_numbers p))
@@ -34,12 +32,15 @@ returns-then-summary-gt1 c =
 
 pub returns-in-Inventory : goal.returns-in-Inventory
 returns-in-Inventory c =
-    returned_yes (sym (ap (numbers c.before.before) c.in-Inventory.is) ∙ told c.before.before) refl
+    let at_subinventory_part = (goal.at.returns-in-Inventory c).After-subinventory_part in
+    returned_yes (sym (ap (numbers at_subinventory_part) c.in-Inventory.is) ∙ told at_subinventory_part) refl
 
 pub returns-in-Spill : goal.returns-in-Spill
 returns-in-Spill c =
-    returned_yes (sym (ap (numbers c.before.before) c.in-Spill.is) ∙ told c.before.before) refl
+    let at_subinventory_part = (goal.at.returns-in-Spill c).After-subinventory_part in
+    returned_yes (sym (ap (numbers at_subinventory_part) c.in-Spill.is) ∙ told at_subinventory_part) refl
 
 pub returns-in-Refused : goal.returns-in-Refused
 returns-in-Refused c =
-    returned_no (sym (ap (numbers c.before.before.before) c.in-Refused.is) ∙ told c.before.before.before) c.status.ensures
+    let at_subinventory_part = (goal.at.returns-in-Refused c).After-subinventory_part in
+    returned_no (sym (ap (numbers at_subinventory_part) c.in-Refused.is) ∙ told at_subinventory_part) c.status.ensures

@@ -37,13 +37,14 @@ pub returns-then-ones-k : goal.returns-then-ones-k
 returns-then-ones-k c =
     let a = c.args in
     word_seek_past a.word a.k (c.running_sums-sums.result / 2 ^ 56) c.ranges.word.fits
-    (ones_total c.before) c.if-ones-k.true
+    (ones_total (goal.at.returns-then-ones-k c).After-running_sums-sums) c.if-ones-k.true
 
 pub first_above-at-requires : goal.first_above-at-requires
 first_above-at-requires c =
+    let at_running_sums_sums = (goal.at.first_above-at-requires c).After-running_sums-sums in
     let w = c.args.word in (
-      omega (arith, ones_total c.before, rank_le (bit w) 64),
-      λ j l. omega (arith, byte_sums c.before j l, rank_le (bit w) (8 * suc j)),
+      omega (arith, ones_total at_running_sums_sums, rank_le (bit w) 64),
+      λ j l. omega (arith, byte_sums at_running_sums_sums j l, rank_le (bit w) (8 * suc j)),
     )
 
 module _ (c : After-first_above-at) where
@@ -55,7 +56,7 @@ module _ (c : After-first_above-at) where
       InByte a.word a.k c.first_above-at.result before_bits
   the_byte =
       let a = c.args in
-      in_byte a.word c.running_sums-sums.result (omega arith) (byte_sums c.before.before) a.k c.first_above-at.result
+      in_byte a.word c.running_sums-sums.result (omega arith) (byte_sums (goal.at.After-first_above-at c).After-running_sums-sums) a.k c.first_above-at.result
       c.if-ones-k.false c.first_above-at.ensures
 
 pub overflow_shr-before : goal.overflow_shr-before
@@ -90,11 +91,11 @@ module _ (c : After-running_sums-inner) where
 
 pub overflow_sub-k : goal.overflow_sub-k
 overflow_sub-k c =
-    (the_byte c.before.before).from
+    (the_byte (goal.at.overflow_sub-k c).After-first_above-at).from
 
 pub first_above-requires : goal.first_above-requires
 first_above-requires c = (
-  omega (arith, ones_total c.before.before.before.before, rank_le (bit c.args.word) 64),
+  omega (arith, ones_total (goal.at.first_above-requires c).After-running_sums-sums, rank_le (bit c.args.word) 64),
   λ j l. omega (arith, bit_sums c j l, rank_le (bit (byte c)) (suc j)),
 )
 
@@ -105,9 +106,9 @@ module _ (c : After-first_above) where
       (c.first_above-at.result + c.first_above.result / 8)
   found =
       let a = c.args in
-      sought_bit a.word a.k c.first_above-at.result (before_bits c.before.before.before)
+      sought_bit a.word a.k c.first_above-at.result (before_bits (goal.at.After-first_above c).After-first_above-at)
       c.running_sums-inner.result c.first_above.result
-      (the_byte c.before.before.before) (bit_sums c.before) c.first_above.ensures
+      (the_byte (goal.at.After-first_above c).After-first_above-at) (bit_sums (goal.at.After-first_above c).After-running_sums-inner) c.first_above.ensures
 
 pub overflow_add-result : goal.overflow_add-result
 overflow_add-result c =

@@ -8,13 +8,11 @@ use Rattle.spacing.specs.Spacing.{N, L}
 use Rattle.inventory.specs.Index.{bound, ranks_of}
 use Rattle.inventory.proofs.Marks.{rising, start_here, start_next, bound_gt, entry_made}
 use Rattle.build_inventory.specs.Positions.{pos_in}
-use Rattle.build_inventory.proofs.entry.entry_at.Lts.{After-entry_ranks, After-next_start, After-pow2}
-use Rattle.build_inventory.proofs.entry.entry_at.Reads.{Pre, Post}
-use Rattle.build_inventory.proofs.entry.entry_at.Tie.{the-claims}
+use Rattle.build_inventory.proofs.entry.entry_at.Goals.{After-entry_ranks-ranks, After-next_start-next, After-pow2-ones}
 use Rattle.build_inventory.proofs.entry.entry_at.Goals as goal
 
 -- the entry's first rank, with its power
-module _ (c : After-pow2 the-claims Pre Post) where
+module _ (c : After-pow2-ones) where
   first : c.args.e * c.pow2-ones.result ≡ c.args.e * 2 ^ L c.args.plan
   first = ap (λ (z : ℕ). c.args.e * z) c.pow2-ones.ensures
 
@@ -23,22 +21,22 @@ module _ (c : After-pow2 the-claims Pre Post) where
   few = let r = c.requires.0 in omega (arith, r.admitted.short, r.few)
 
 -- where the next entry starts
-module _ (c : After-next_start the-claims Pre Post) where
+module _ (c : After-next_start-next) where
   next :
       let a = c.args in
       c.next_start-next.result ≡ bound (pos_in a.words.now a.plan) a.plan (a.e * 2 ^ L a.plan + 2 ^ L a.plan)
   next =
       let a = c.args in
-      c.next_start-next.ensures ∙ ap (λ (z : ℕ). bound (pos_in a.words.now a.plan) a.plan (z + 2 ^ L a.plan)) (first c.before)
+      c.next_start-next.ensures ∙ ap (λ (z : ℕ). bound (pos_in a.words.now a.plan) a.plan (z + 2 ^ L a.plan)) (first (goal.at.After-next_start-next c).After-pow2-ones)
 
 -- no more ranks than N
-few_ranks : (c : After-entry_ranks the-claims Pre Post) → c.entry_ranks-ranks.result ≤ N c.args.plan
+few_ranks : (c : After-entry_ranks-ranks) → c.entry_ranks-ranks.result ≤ N c.args.plan
 unfolding ranks_of
 few_ranks c = omega (arith, c.entry_ranks-ranks.ensures)
 
 pub overflow_mul-first : goal.overflow_mul-first
 overflow_mul-first c =
-    record { fits = omega (arith, first c.before, few c.before, c.requires.1) }
+    record { fits = omega (arith, first c, few c, c.requires.1) }
 
 pub next_start-next-requires : goal.next_start-next-requires
 next_start-next-requires c =
@@ -49,7 +47,7 @@ next_start-next-requires c =
 pub entry_ranks-ranks-requires : goal.entry_ranks-ranks-requires
 entry_ranks-ranks-requires c =
     let r = c.requires in
-    (few c.before.before, r.0.small_l, omega (arith, r.1))
+    (few (goal.at.entry_ranks-ranks-requires c).After-pow2-ones, r.0.small_l, omega (arith, r.1))
 
 pub overflow_sub-span : goal.overflow_sub-span
 overflow_sub-span c =
@@ -59,18 +57,18 @@ overflow_sub-span c =
     let k = a.e * 2 ^ L a.plan in
     let two = pow_pos (L a.plan) in
     let g = bound_gt pos a.plan (rising a.words.now a.plan r.0) k (k + 2 ^ L a.plan) (omega arith) r.1 in
-    omega (arith, r.2, start_here pos a.plan a.e r.1, next c.before.before)
+    omega (arith, r.2, start_here pos a.plan a.e r.1, next (goal.at.overflow_sub-span c).After-next_start-next)
 
 pub ceil_shift-marks-requires : goal.ceil_shift-marks-requires
 ceil_shift-marks-requires c =
     let r = c.requires.0 in
-    (omega (arith, few_ranks c.before.before.before, few c.before.before.before.before.before), omega (arith, c.log2_quantum-log2_quantum.ensures.1, r.spaced, r.small_l))
+    (omega (arith, few_ranks (goal.at.ceil_shift-marks-requires c).After-entry_ranks-ranks, few (goal.at.ceil_shift-marks-requires c).After-pow2-ones), omega (arith, c.log2_quantum-log2_quantum.ensures.1, r.spaced, r.small_l))
 
 pub spilled_by-spilled-requires : goal.spilled_by-spilled-requires
 spilled_by-spilled-requires c =
     let q = c.log2_quantum-log2_quantum.result in
     let m = ceil_le c.entry_ranks-ranks.result (2 ^ q) (pow_pos q) in
-    (omega (arith, c.ceil_shift-marks.ensures, few_ranks c.before.before.before.before.before, few c.before.before.before.before.before.before.before), omega (arith, c.requires.0.small_m))
+    (omega (arith, c.ceil_shift-marks.ensures, few_ranks (goal.at.spilled_by-spilled-requires c).After-entry_ranks-ranks, few (goal.at.spilled_by-spilled-requires c).After-pow2-ones), omega (arith, c.requires.0.small_m))
 
 pub returns : goal.returns
 returns c =
@@ -78,6 +76,6 @@ returns c =
     let pos = pos_in a.words.now a.plan in
     entry_made pos a.plan a.e _ a.start c.next_start-next.result c.entry_ranks-ranks.result c.from_span-kind.result
     c.log2_quantum-log2_quantum.result c.ceil_shift-marks.result c.spilled_by-spilled.result c.shape_of-shape.result
-    (first c.before.before.before.before.before.before.before.before) c.requires.2 (next c.before.before.before.before.before.before.before ∙ sym (start_next pos a.plan a.e)) c.entry_ranks-ranks.ensures
+    (first (goal.at.returns c).After-pow2-ones) c.requires.2 (next (goal.at.returns c).After-next_start-next ∙ sym (start_next pos a.plan a.e)) c.entry_ranks-ranks.ensures
     c.from_span-kind.ensures c.log2_quantum-log2_quantum.ensures.0 c.ceil_shift-marks.ensures
     c.shape_of-shape.ensures c.spilled_by-spilled.ensures

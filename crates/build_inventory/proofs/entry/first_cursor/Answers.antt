@@ -5,12 +5,10 @@ use Rattle.inventory.proofs.Marks.{Streamable, mark_first}
 use Rattle.build_inventory.specs.Positions.{pos_in}
 use Rattle.build_inventory.specs.Stream.{AtMark}
 use Rattle.build_inventory.proofs.Positions.{streamable}
-use Rattle.build_inventory.proofs.entry.first_cursor.Lts.{Start}
-use Rattle.build_inventory.proofs.entry.first_cursor.Reads.{Pre, Post}
-use Rattle.build_inventory.proofs.entry.first_cursor.Tie.{the-claims}
+use Rattle.build_inventory.proofs.entry.first_cursor.Goals.{Start}
 use Rattle.build_inventory.proofs.entry.first_cursor.Goals as goal
 
-module _ (c : Start the-claims Pre Post) where
+module _ (c : Start) where
   marks : Streamable (pos_in c.args.words.now c.args.plan) c.args.plan c.args.x
   marks = streamable c.args.words.now c.args.plan c.requires.0 c.args.x c.requires.1
 
@@ -19,13 +17,13 @@ module _ (c : Start the-claims Pre Post) where
 
 pub returns-then-shape-eq0 : goal.returns-then-shape-eq0
 returns-then-shape-eq0 c =
-    (sym c.if-shape-eq0.true, stands c.before.before.before.before.before)
+    (sym c.if-shape-eq0.true, stands (goal.at.returns-then-shape-eq0 c).Start)
 
 pub next_lane-step-requires : goal.next_lane-step-requires
 next_lane-step-requires c =
-    (c.requires.0, c.requires.1, stands c.before.before.before.before.before, omega arith)
+    (c.requires.0, c.requires.1, stands (goal.at.next_lane-step-requires c).Start, omega arith)
 
 pub returns : goal.returns
 returns c =
     let e = c.next_lane-step.ensures in
-    (omega (arith, e.number, (marks c.before.before.before.before.before.before.before).shaped.from), e.stands)
+    (omega (arith, e.number, (marks (goal.at.returns c).Start).shaped.from), e.stands)

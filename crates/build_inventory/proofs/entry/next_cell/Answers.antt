@@ -9,12 +9,10 @@ use Rattle.inventory.proofs.Lanes.{turn_more, pack-zero, lane_fits, some_width, 
 use Rattle.inventory.proofs.Marks.{Streamable, lane_lt}
 use Rattle.build_inventory.specs.Positions.{pos_in}
 use Rattle.build_inventory.proofs.Positions.{streamable}
-use Rattle.build_inventory.proofs.entry.next_cell.Lts.{After-next_lane}
-use Rattle.build_inventory.proofs.entry.next_cell.Reads.{Pre, Post}
-use Rattle.build_inventory.proofs.entry.next_cell.Tie.{the-claims}
+use Rattle.build_inventory.proofs.entry.next_cell.Goals.{After-next_lane-step}
 use Rattle.build_inventory.proofs.entry.next_cell.Goals as goal
 
-module _ (c : After-next_lane the-claims Pre Post goal.the-invariant-loop-t goal.the-decreases-loop-t) where
+module _ (c : After-next_lane-step) where
   abbrev x : Entry
   x = c.args.x
 
@@ -67,31 +65,33 @@ next_lane-step-requires c =
 
 pub overflow_shl-cell : goal.overflow_shl-cell
 overflow_shl-cell c =
-    let s = (x c.before.before.before).shape in
-    omega (arith, fits c.before.before.before, some_width s.width s.lanes (marks c.before.before.before).shaped.cell)
+    let at_next_lane_step = (goal.at.overflow_shl-cell c).After-next_lane-step in
+    let s = (x at_next_lane_step).shape in
+    omega (arith, fits at_next_lane_step, some_width s.width s.lanes (marks at_next_lane_step).shaped.cell)
 
 pub overflow_add-cell : goal.overflow_add-cell
 overflow_add-cell c =
-    record { fits = room c.before.before.before }
+    record { fits = room (goal.at.overflow_add-cell c).After-next_lane-step }
 
 pub overflow_add-shift : goal.overflow_add-shift
 overflow_add-shift c =
-    record { fits = omega (arith, fits c.before.before.before) }
+    record { fits = omega (arith, fits (goal.at.overflow_add-shift c).After-next_lane-step) }
 
 pub overflow_add-t : goal.overflow_add-t
 overflow_add-t c =
-    omega (arith, (marks c.before.before.before).shaped.few)
+    omega (arith, (marks (goal.at.overflow_add-t c).After-next_lane-step).shaped.few)
 
 pub loop-t-preserved : goal.loop-t-preserved
 loop-t-preserved c =
-    let w = (x c.before.before.before).shape.width in
+    let at_next_lane_step = (goal.at.loop-t-preserved c).After-next_lane-step in
+    let w = (x at_next_lane_step).shape.width in
     let t = c.loop-t.t in
     let e = c.next_lane-step.ensures in (
       omega arith,
       omega (arith, turn_more t w, mul_comm w t, mul_comm w (t + 1)),
       omega (arith, e.number),
       e.stands,
-      more c.before.before.before,
+      more at_next_lane_step,
     )
 
 pub returns : goal.returns

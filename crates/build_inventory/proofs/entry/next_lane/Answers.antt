@@ -5,12 +5,10 @@ use native.Mathlib.Omega.{arith}
 use Rattle.inventory.proofs.Marks.{Streamable, lane_in, lane_past}
 use Rattle.build_inventory.specs.Positions.{or_end, pos_in}
 use Rattle.build_inventory.proofs.Positions.{streamable, mark_next}
-use Rattle.build_inventory.proofs.entry.next_lane.Lts.{Start}
-use Rattle.build_inventory.proofs.entry.next_lane.Reads.{Pre, Post}
-use Rattle.build_inventory.proofs.entry.next_lane.Tie.{the-claims}
+use Rattle.build_inventory.proofs.entry.next_lane.Goals.{Start}
 use Rattle.build_inventory.proofs.entry.next_lane.Goals as goal
 
-marks : (c : Start the-claims Pre Post) → Streamable (pos_in c.args.words.now c.args.plan) c.args.plan c.args.x
+marks : (c : Start) → Streamable (pos_in c.args.words.now c.args.plan) c.args.plan c.args.x
 marks c = streamable c.args.words.now c.args.plan c.requires.0 c.args.x c.requires.1
 
 pub returns-then-k-x : goal.returns-then-k-x
@@ -25,7 +23,7 @@ returns-then-k-x c =
 pub overflow_sub-value : goal.overflow_sub-value
 overflow_sub-value c =
     let l = c.if-k-x.false in
-    omega (arith, (marks c.before.before.before.before.before.before).low c.args.c.k l, c.requires.2 l)
+    omega (arith, (marks (goal.at.overflow_sub-value c).Start).low c.args.c.k l, c.requires.2 l)
 
 pub returns-then-next-x : goal.returns-then-next-x
 returns-then-next-x c =
@@ -40,7 +38,7 @@ returns-then-next-x c =
 
 pub pow2-requires : goal.pow2-requires
 pow2-requires c =
-    (marks c.before.before.before.before.before.before.before.before).close
+    (marks (goal.at.pow2-requires c).Start).close
 
 pub returns : goal.returns
 returns c =
@@ -55,5 +53,5 @@ returns c =
       stands = λ m.
           c.or_end-mark.ensures
           ∙ ap (or_end a.plan) c.seek_from-place.ensures.position
-          ∙ mark_next w a.plan r.0 a.x (marks c.before.before.before.before.before.before.before.before.before.before.before) a.c.k a.c.at o.result m (r.2 l) o.ensures;
+          ∙ mark_next w a.plan r.0 a.x (marks (goal.at.returns c).Start) a.c.k a.c.at o.result m (r.2 l) o.ensures;
     }

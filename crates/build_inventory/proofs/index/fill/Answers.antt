@@ -7,31 +7,29 @@ use Rattle.inventory.proofs.Ranks.{entry_below}
 use Rattle.build_inventory.specs.Positions.{EntryIn}
 use Rattle.build_inventory.proofs.Fill.{stand_none, stand_end, stand_last, stand_cells, stand_spill, stand_more}
 use Rattle.build_inventory.proofs.Parts.{part_fits}
-use Rattle.build_inventory.proofs.index.fill.Lts.{After-entry_at, In-loop}
-use Rattle.build_inventory.proofs.index.fill.Reads.{Pre, Post}
-use Rattle.build_inventory.proofs.index.fill.Tie.{the-claims}
+use Rattle.build_inventory.proofs.index.fill.Goals.{After-entry_at-x, In-loop-e}
 use Rattle.build_inventory.proofs.index.fill.Goals as goal
 
 -- in a turn: e is an entry's number
-below : (c : In-loop the-claims Pre Post goal.the-invariant-loop-e goal.the-decreases-loop-e) → c.loop-e.e < entries_of c.args.plan
+below : (c : In-loop-e) → c.loop-e.e < entries_of c.args.plan
 below c = omega (arith, c.entry_count-entries.ensures, c.loop-e-test.true)
 
 -- its cells, and those that it spills, have room
-module _ (c : After-entry_at the-claims Pre Post goal.the-invariant-loop-e goal.the-decreases-loop-e) where
+module _ (c : After-entry_at-x) where
   room : stride c.args.plan + c.loop-e.at ≤ length c.loop-e.inventory
   room =
       let r = c.requires in
-      stand_cells r.cells r.spills c.loop-e.invariant (below c.before) c.entry_at-x.ensures
+      stand_cells r.cells r.spills c.loop-e.invariant (below (goal.at.After-entry_at-x c).In-loop-e) c.entry_at-x.ensures
 
   spill_room : c.entry_at-x.result.spilled + c.loop-e.spilled ≤ length c.loop-e.spill
   spill_room =
       let r = c.requires in
-      stand_spill r.cells r.spills c.loop-e.invariant (below c.before) c.entry_at-x.ensures
+      stand_spill r.cells r.spills c.loop-e.invariant (below (goal.at.After-entry_at-x c).In-loop-e) c.entry_at-x.ensures
 
   entry_in : EntryIn c.args.words.now c.args.plan c.entry_at-x.result
   entry_in = record {
     number = c.loop-e.e;
-    within = entry_below c.args.plan c.loop-e.e (below c.before);
+    within = entry_below c.args.plan c.loop-e.e (below (goal.at.After-entry_at-x c).In-loop-e);
     is = c.entry_at-x.ensures;
   }
 
@@ -55,54 +53,55 @@ loop-e-init c =
 
 pub entry_at-x-requires : goal.entry_at-x-requires
 entry_at-x-requires c =
-    (c.requires.plans, entry_below c.args.plan c.loop-e.e (below c.before), c.loop-e.invariant.reached.begins)
+    (c.requires.plans, entry_below c.args.plan c.loop-e.e (below c), c.loop-e.invariant.reached.begins)
 
 pub offset_bounds-inventory-at : goal.offset_bounds-inventory-at
 offset_bounds-inventory-at c =
-    omega (arith, room c.before, c.loop-e.invariant.long)
+    omega (arith, room c, c.loop-e.invariant.long)
 
 pub slice_bounds-write_entry-count : goal.slice_bounds-write_entry-count
 slice_bounds-write_entry-count c =
-    omega (arith, room c.before)
+    omega (arith, room c)
 
 pub slice_bounds-write_entry-start : goal.slice_bounds-write_entry-start
 slice_bounds-write_entry-start c =
-    omega (arith, room c.before)
+    omega (arith, room c)
 
 pub offset_bounds-spill-spilled : goal.offset_bounds-spill-spilled
 offset_bounds-spill-spilled c =
-    omega (arith, spill_room c.before.before, c.loop-e.invariant.spill_long, c.well_formed.1.1.1)
+    omega (arith, spill_room (goal.at.offset_bounds-spill-spilled c).After-entry_at-x, c.loop-e.invariant.spill_long, c.well_formed.1.1.1)
 
 pub slice_bounds-write_entry-count-in-loop-e : goal.slice_bounds-write_entry-count-in-loop-e
 slice_bounds-write_entry-count-in-loop-e c =
-    omega (arith, spill_room c.before.before)
+    omega (arith, spill_room (goal.at.slice_bounds-write_entry-count-in-loop-e c).After-entry_at-x)
 
 pub slice_bounds-write_entry-start-in-loop-e : goal.slice_bounds-write_entry-start-in-loop-e
 slice_bounds-write_entry-start-in-loop-e c =
-    omega (arith, spill_room c.before.before)
+    omega (arith, spill_room (goal.at.slice_bounds-write_entry-start-in-loop-e c).After-entry_at-x)
 
 pub write_entry-requires : goal.write_entry-requires
 write_entry-requires c =
+    let at_entry_at_x = (goal.at.write_entry-requires c).After-entry_at-x in
     let l = c.loop-e in (
       c.requires.plans,
-      entry_in c.before.before.before,
-      part_fits l.inventory l.at (stride c.args.plan) (room c.before.before.before),
-      part_fits l.spill l.spilled c.entry_at-x.result.spilled (spill_room c.before.before.before),
+      entry_in at_entry_at_x,
+      part_fits l.inventory l.at (stride c.args.plan) (room at_entry_at_x),
+      part_fits l.spill l.spilled c.entry_at-x.result.spilled (spill_room at_entry_at_x),
     )
 
 pub overflow_add-at : goal.overflow_add-at
 overflow_add-at c =
-    omega (arith, room c.before.before.before.before.before.before.before.before, c.entry_len-cells.ensures, c.loop-e.invariant.long, c.well_formed.1.1)
+    omega (arith, room (goal.at.overflow_add-at c).After-entry_at-x, c.entry_len-cells.ensures, c.loop-e.invariant.long, c.well_formed.1.1)
 
 pub overflow_add-spilled : goal.overflow_add-spilled
 overflow_add-spilled c =
-    omega (arith, spill_room c.before.before.before.before.before.before.before.before, c.loop-e.invariant.spill_long, c.well_formed.1.1.1)
+    omega (arith, spill_room (goal.at.overflow_add-spilled c).After-entry_at-x, c.loop-e.invariant.spill_long, c.well_formed.1.1.1)
 
 pub loop-e-preserved : goal.loop-e-preserved
 loop-e-preserved c =
     let r = c.requires in
     let w = c.write_entry in
-    stand_more r.cells r.spills c.loop-e.invariant (below c.before.before.before.before.before.before.before.before.before) c.entry_at-x.ensures
+    stand_more r.cells r.spills c.loop-e.invariant (below (goal.at.loop-e-preserved c).In-loop-e) c.entry_at-x.ensures
     c.entry_len-cells.ensures w.ensures w.auto.cells w.auto.spill
 
 pub write_cell-requires : goal.write_cell-requires

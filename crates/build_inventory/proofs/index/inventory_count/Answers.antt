@@ -6,13 +6,11 @@ use borrow.Author.Tests.{lt-ltb, le-ltb}
 use Rattle.rank_sel.specs.Outcome.{answer}
 use Rattle.inventory.specs.Index.{inventory_len_of}
 use Rattle.build_inventory.proofs.Turns.{len_over, len_within}
-use Rattle.build_inventory.proofs.index.inventory_count.Lts.{Else2}
-use Rattle.build_inventory.proofs.index.inventory_count.Reads.{Pre, Post}
-use Rattle.build_inventory.proofs.index.inventory_count.Tie.{the-claims}
+use Rattle.build_inventory.proofs.index.inventory_count.Goals.{Else-most-cells}
 use Rattle.build_inventory.proofs.index.inventory_count.Goals as goal
 
 -- the count is within the bound
-module _ (c : Else2 the-claims Pre Post) where
+module _ (c : Else-most-cells) where
   within : (c.entry_count-count.result * c.entry_len-cells.result + 1 ≡ inventory_len_of c.args.plan)
       × (c.entry_count-count.result * c.entry_len-cells.result + 1 ≤ c.args.most)
   within =

@@ -7,36 +7,34 @@ use Rattle.inventory.proofs.Ranks.{entry_below}
 use Rattle.build_inventory.specs.Positions.{EntryIn}
 use Rattle.build_inventory.proofs.Comparing.{agree_none, agree_end, agree_last, agree_cells, agree_spill, agree_more, agree_stop}
 use Rattle.build_inventory.proofs.Parts.{part_fits}
-use Rattle.build_inventory.proofs.index.same_index.Lts.{After-entry_at, After-loop, In-loop}
-use Rattle.build_inventory.proofs.index.same_index.Reads.{Pre, Post}
-use Rattle.build_inventory.proofs.index.same_index.Tie.{the-claims}
+use Rattle.build_inventory.proofs.index.same_index.Goals.{After-entry_at-x, After-loop-e, In-loop-e}
 use Rattle.build_inventory.proofs.index.same_index.Goals as goal
 
 -- in a turn: e is an entry's number
-below : (c : In-loop the-claims Pre Post goal.the-invariant-loop-e goal.the-decreases-loop-e) → c.loop-e.e < entries_of c.args.plan
+below : (c : In-loop-e) → c.loop-e.e < entries_of c.args.plan
 below c = omega (arith, c.entry_count-count.ensures, c.loop-e-test.true)
 
 -- its cells, and those that it spills, are there
-module _ (c : After-entry_at the-claims Pre Post goal.the-invariant-loop-e goal.the-decreases-loop-e) where
+module _ (c : After-entry_at-x) where
   room : stride c.args.plan + c.loop-e.at ≤ length c.args.inventory.now
   room =
       let r = c.requires in
-      agree_cells r.cells r.spills c.loop-e.invariant (below c.before) c.entry_at-x.ensures
+      agree_cells r.cells r.spills c.loop-e.invariant (below (goal.at.After-entry_at-x c).In-loop-e) c.entry_at-x.ensures
 
   spill_room : c.entry_at-x.result.spilled + c.loop-e.spilled ≤ length c.args.spill.now
   spill_room =
       let r = c.requires in
-      agree_spill r.cells r.spills c.loop-e.invariant (below c.before) c.entry_at-x.ensures
+      agree_spill r.cells r.spills c.loop-e.invariant (below (goal.at.After-entry_at-x c).In-loop-e) c.entry_at-x.ensures
 
   entry_in : EntryIn c.args.words.now c.args.plan c.entry_at-x.result
   entry_in = record {
     number = c.loop-e.e;
-    within = entry_below c.args.plan c.loop-e.e (below c.before);
+    within = entry_below c.args.plan c.loop-e.e (below (goal.at.After-entry_at-x c).In-loop-e);
     is = c.entry_at-x.ensures;
   }
 
 -- after the last: the closing cell is there
-end : (c : After-loop the-claims Pre Post goal.the-invariant-loop-e goal.the-decreases-loop-e) → c.loop-e.at < length c.args.inventory.now
+end : (c : After-loop-e) → c.loop-e.at < length c.args.inventory.now
 end c =
     let r = c.requires in
     agree_end r.cells r.spills c.loop-e.invariant
@@ -61,68 +59,69 @@ loop-e-init c =
 
 pub entry_at-x-requires : goal.entry_at-x-requires
 entry_at-x-requires c =
-    (c.requires.plans, entry_below c.args.plan c.loop-e.e (below c.before), c.loop-e.invariant.reached.begins)
+    (c.requires.plans, entry_below c.args.plan c.loop-e.e (below c), c.loop-e.invariant.reached.begins)
 
 pub offset_bounds-inventory-at : goal.offset_bounds-inventory-at
 offset_bounds-inventory-at c =
-    omega (arith, room c.before)
+    omega (arith, room c)
 
 pub slice_bounds-same_entry-count : goal.slice_bounds-same_entry-count
 slice_bounds-same_entry-count c =
-    omega (arith, room c.before)
+    omega (arith, room c)
 
 pub slice_bounds-same_entry-start : goal.slice_bounds-same_entry-start
 slice_bounds-same_entry-start c =
-    omega (arith, room c.before)
+    omega (arith, room c)
 
 pub offset_bounds-spill-spilled : goal.offset_bounds-spill-spilled
 offset_bounds-spill-spilled c =
-    omega (arith, spill_room c.before.before)
+    omega (arith, spill_room (goal.at.offset_bounds-spill-spilled c).After-entry_at-x)
 
 pub slice_bounds-same_entry-count-in-loop-e : goal.slice_bounds-same_entry-count-in-loop-e
 slice_bounds-same_entry-count-in-loop-e c =
-    omega (arith, spill_room c.before.before)
+    omega (arith, spill_room (goal.at.slice_bounds-same_entry-count-in-loop-e c).After-entry_at-x)
 
 pub slice_bounds-same_entry-start-in-loop-e : goal.slice_bounds-same_entry-start-in-loop-e
 slice_bounds-same_entry-start-in-loop-e c =
-    omega (arith, spill_room c.before.before)
+    omega (arith, spill_room (goal.at.slice_bounds-same_entry-start-in-loop-e c).After-entry_at-x)
 
 pub same_entry-requires : goal.same_entry-requires
 same_entry-requires c =
+    let at_entry_at_x = (goal.at.same_entry-requires c).After-entry_at-x in
     let l = c.loop-e in (
       c.requires.plans,
-      entry_in c.before.before.before,
-      part_fits c.args.inventory.now l.at (stride c.args.plan) (room c.before.before.before),
-      part_fits c.args.spill.now l.spilled c.entry_at-x.result.spilled (spill_room c.before.before.before),
+      entry_in at_entry_at_x,
+      part_fits c.args.inventory.now l.at (stride c.args.plan) (room at_entry_at_x),
+      part_fits c.args.spill.now l.spilled c.entry_at-x.result.spilled (spill_room at_entry_at_x),
     )
 
 pub returns-then-not-same_entry : goal.returns-then-not-same_entry
 returns-then-not-same_entry c =
     let r = c.requires in
-    agree_stop r.cells r.spills c.loop-e.invariant (below c.before.before.before.before.before.before) c.entry_at-x.ensures refl refl
+    agree_stop r.cells r.spills c.loop-e.invariant (below (goal.at.returns-then-not-same_entry c).In-loop-e) c.entry_at-x.ensures refl refl
     (sym c.same_entry.ensures ∙ c.if-not-same_entry.true)
 
 pub overflow_add-at : goal.overflow_add-at
 overflow_add-at c =
-    omega (arith, room c.before.before.before.before.before, c.entry_len-cells.ensures, c.well_formed.1.1)
+    omega (arith, room (goal.at.overflow_add-at c).After-entry_at-x, c.entry_len-cells.ensures, c.well_formed.1.1)
 
 pub overflow_add-spilled : goal.overflow_add-spilled
 overflow_add-spilled c =
-    omega (arith, spill_room c.before.before.before.before.before, c.well_formed.1.1.1)
+    omega (arith, spill_room (goal.at.overflow_add-spilled c).After-entry_at-x, c.well_formed.1.1.1)
 
 pub loop-e-preserved : goal.loop-e-preserved
 loop-e-preserved c =
     let r = c.requires in
-    agree_more r.cells r.spills c.loop-e.invariant (below c.before.before.before.before.before.before) c.entry_at-x.ensures refl refl
+    agree_more r.cells r.spills c.loop-e.invariant (below (goal.at.loop-e-preserved c).In-loop-e) c.entry_at-x.ensures refl refl
     c.entry_len-cells.ensures (sym c.same_entry.ensures ∙ c.if-not-same_entry.false)
 
 pub offset_bounds-inventory-at-2 : goal.offset_bounds-inventory-at-2
 offset_bounds-inventory-at-2 c =
-    omega (arith, end c.before)
+    omega (arith, end c)
 
 pub bounds-inventory-at : goal.bounds-inventory-at
 bounds-inventory-at c =
-    end c.before.before
+    end (goal.at.bounds-inventory-at c).After-loop-e
 
 pub returns : goal.returns
 returns c =

@@ -9,21 +9,19 @@ use Rattle.inventory.proofs.Ranks.{entry_below}
 use Rattle.inventory.proofs.Lanes.{turn_more}
 use Rattle.build_inventory.specs.Positions.{pos_in}
 use Rattle.build_inventory.proofs.Turns.{Reached, reached_none, reached_more}
-use Rattle.build_inventory.proofs.index.spill_count.Lts.{After-entry_at, In-loop}
-use Rattle.build_inventory.proofs.index.spill_count.Reads.{Pre, Post}
-use Rattle.build_inventory.proofs.index.spill_count.Tie.{the-claims}
+use Rattle.build_inventory.proofs.index.spill_count.Goals.{After-entry_at-x, In-loop-e}
 use Rattle.build_inventory.proofs.index.spill_count.Goals as goal
 
-module _ (c : In-loop the-claims Pre Post goal.the-invariant-loop-e goal.the-decreases-loop-e) where
+module _ (c : In-loop-e) where
   below : c.loop-e.e < entries_of c.args.plan
   below = omega (arith, c.entry_count-count.ensures, c.loop-e-test.true)
 
 -- the next entry is reached
-more : (c : After-entry_at the-claims Pre Post goal.the-invariant-loop-e goal.the-decreases-loop-e) →
+more : (c : After-entry_at-x) →
     let a = c.args in
     let l = c.loop-e in
     Reached (pos_in a.words.now a.plan) a.plan (l.e + 1) (l.spilled + c.entry_at-x.result.spilled) c.entry_at-x.result.next
-more c = reached_more c.loop-e.invariant (below c.before) c.entry_at-x.ensures
+more c = reached_more c.loop-e.invariant (below (goal.at.After-entry_at-x c).In-loop-e) c.entry_at-x.ensures
 
 pub entry_count-count-requires : goal.entry_count-count-requires
 entry_count-count-requires c =
@@ -40,7 +38,7 @@ loop-e-init c =
 pub entry_at-x-requires : goal.entry_at-x-requires
 entry_at-x-requires c =
     let l = c.loop-e in
-    (c.requires, entry_below c.args.plan l.e (below c.before), l.invariant.begins)
+    (c.requires, entry_below c.args.plan l.e (below c), l.invariant.begins)
 
 pub overflow_add-spilled : goal.overflow_add-spilled
 overflow_add-spilled c =
@@ -49,12 +47,12 @@ overflow_add-spilled c =
     let e = c.loop-e.e in
     let u = pow_mono {i = L a.plan} {j = 63} r.small_l in
     let n = spill_start_few (pos_in a.words.now a.plan) a.plan (e + 1) in
-    let m = (more c.before.before).spills in
-    record { fits = omega (arith, turn_more e (2 ^ L a.plan), entry_below a.plan e (below c.before.before.before), r.few, r.admitted.short) }
+    let m = (more (goal.at.overflow_add-spilled c).After-entry_at-x).spills in
+    record { fits = omega (arith, turn_more e (2 ^ L a.plan), entry_below a.plan e (below (goal.at.overflow_add-spilled c).In-loop-e), r.few, r.admitted.short) }
 
 pub loop-e-preserved : goal.loop-e-preserved
 loop-e-preserved c =
-    more c.before.before
+    more (goal.at.loop-e-preserved c).After-entry_at-x
 
 pub returns : goal.returns
 returns c =

@@ -13,13 +13,11 @@ use Rattle.inventory.specs.Lawful.{of_cells}
 use Rattle.inventory.proofs.Lawful.{cells_held}
 use Rattle.index_image.specs.Image.{of_summary_alone, place_too_short, of_writing}
 use Rattle.index_image.proofs.RoundTrip.{image_long}
-use Rattle.index_image.proofs.image.test_writing.Lts.{After-is_place_too_short, After-test_alone, After-test_cells}
-use Rattle.index_image.proofs.image.test_writing.Reads.{Pre, Post}
-use Rattle.index_image.proofs.image.test_writing.Tie.{the-claims}
+use Rattle.index_image.proofs.image.test_writing.Goals.{After-is_place_too_short, After-test_alone-alone, After-test_cells-cells}
 use Rattle.index_image.proofs.image.test_writing.Goals as goal
 
 -- the summary is tested
-module _ (c : After-test_alone the-claims Pre Post) where
+module _ (c : After-test_alone-alone) where
   abbrev place : Conditions
   place = let a = c.args in (place_too_short a.summary a.inventory.now a.spill.now a.lent, 16) ∷ []
 
@@ -30,40 +28,42 @@ module _ (c : After-test_alone the-claims Pre Post) where
   alone_told = record { told = c.test_alone-alone.ensures }
 
 -- so are the cells: what the place's test tells is told by all, where they pass
-module _ (c : After-test_cells the-claims Pre Post) where
-  cells_told : Tells (cells c.before.before) c.test_cells-cells.result
+module _ (c : After-test_cells-cells) where
+  cells_told : Tells (cells (goal.at.After-test_cells-cells c).After-test_alone-alone) c.test_cells-cells.result
   cells_told = record { told = c.test_cells-cells.ensures }
 
-  writing_told : {x : Tested} → c.test_cells-cells.result ≡ Passed → Tells (place c.before.before) x
+  writing_told : {x : Tested} → c.test_cells-cells.result ≡ Passed → Tells (place (goal.at.After-test_cells-cells c).After-test_alone-alone) x
       → let a = c.args in Tells (of_writing a.summary a.inventory.now a.spill.now a.lent) x
   writing_told e v =
-      goes_on (alone_told c.before.before) (cells c.before.before ++ place c.before.before) c.in-Passed.is
-      (goes_on cells_told (place c.before.before) e v)
+      goes_on (alone_told (goal.at.After-test_cells-cells c).After-test_alone-alone) (cells (goal.at.After-test_cells-cells c).After-test_alone-alone ++ place (goal.at.After-test_cells-cells c).After-test_alone-alone) c.in-Passed.is
+      (goes_on cells_told (place (goal.at.After-test_cells-cells c).After-test_alone-alone) e v)
 
 -- and the place, by the counts
-module _ (c : After-is_place_too_short the-claims Pre Post) where
+module _ (c : After-is_place_too_short) where
   short_told : let a = c.args in
       c.is_place_too_short.result ≡ place_too_short a.summary a.inventory.now a.spill.now a.lent
   short_told =
       let a = c.args in
-      let h = cells_held a.summary a.inventory.now a.spill.now (passed_none (cells_told c.before.before) c.in-Passed-cells.is) in
+      let h = cells_held a.summary a.inventory.now a.spill.now (passed_none (cells_told (goal.at.After-is_place_too_short c).After-test_cells-cells) c.in-Passed-cells.is) in
       c.is_place_too_short.ensures ∙ ap (λ (n : ℕ). ltb a.lent n) (sym (image_long a.summary a.inventory.now a.spill.now h))
 
 pub returns-in_default : goal.returns-in_default
 returns-in_default c =
-    (stops (alone_told c.before.before) (cells c.before.before ++ place c.before.before) c.in_default.is).told
+    let at_test_alone_alone = (goal.at.returns-in_default c).After-test_alone-alone in
+    (stops (alone_told at_test_alone_alone) (cells at_test_alone_alone ++ place at_test_alone_alone) c.in_default.is).told
 
 pub returns-in_default-cells : goal.returns-in_default-cells
 returns-in_default-cells c =
-    (goes_on (alone_told c.before.before.before.before) (cells c.before.before.before.before ++ place c.before.before.before.before) c.in-Passed.is
-    (stops (cells_told c.before.before) (place c.before.before.before.before) c.in_default-cells.is)).told
+    let at_test_alone_alone = (goal.at.returns-in_default-cells c).After-test_alone-alone in
+    (goes_on (alone_told at_test_alone_alone) (cells at_test_alone_alone ++ place at_test_alone_alone) c.in-Passed.is
+    (stops (cells_told (goal.at.returns-in_default-cells c).After-test_cells-cells) (place at_test_alone_alone) c.in_default-cells.is)).told
 
 pub returns-then-is_place_too_short : goal.returns-then-is_place_too_short
 returns-then-is_place_too_short c =
-    (writing_told c.before.before.before.before {x = Refused PlaceTooShort} c.in-Passed-cells.is
-    (record { told = rw (sym (short_told c.before.before) ∙ c.if-is_place_too_short.true) })).told
+    (writing_told (goal.at.returns-then-is_place_too_short c).After-test_cells-cells {x = Refused PlaceTooShort} c.in-Passed-cells.is
+    (record { told = rw (sym (short_told (goal.at.returns-then-is_place_too_short c).After-is_place_too_short) ∙ c.if-is_place_too_short.true) })).told
 
 pub returns : goal.returns
 returns c =
-    (writing_told c.before.before.before.before {x = Passed} c.in-Passed-cells.is
-    (record { told = rw (sym (short_told c.before.before) ∙ c.if-is_place_too_short.false) })).told
+    (writing_told (goal.at.returns c).After-test_cells-cells {x = Passed} c.in-Passed-cells.is
+    (record { told = rw (sym (short_told (goal.at.returns c).After-is_place_too_short) ∙ c.if-is_place_too_short.false) })).told

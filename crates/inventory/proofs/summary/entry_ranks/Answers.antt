@@ -4,13 +4,11 @@ use Prim.Native.Nat.{ℕ, ◌*◌, ◌^◌}
 use native.Mathlib.Omega.{arith}
 use Rattle.spacing.specs.Spacing.{L}
 use Rattle.inventory.specs.Index.{ranks_of}
-use Rattle.inventory.proofs.summary.entry_ranks.Lts.{After-pow2}
-use Rattle.inventory.proofs.summary.entry_ranks.Reads.{Pre, Post}
-use Rattle.inventory.proofs.summary.entry_ranks.Tie.{the-claims}
+use Rattle.inventory.proofs.summary.entry_ranks.Goals.{After-pow2-ones}
 use Rattle.inventory.proofs.summary.entry_ranks.Goals as goal
 
 -- the entry's first rank
-first : (c : After-pow2 the-claims Pre Post) → let a = c.args in a.e * c.pow2-ones.result ≡ a.e * 2 ^ L a.plan
+first : (c : After-pow2-ones) → let a = c.args in a.e * c.pow2-ones.result ≡ a.e * 2 ^ L a.plan
 first c = ap (λ (z : ℕ). c.args.e * z) c.pow2-ones.ensures
 
 pub overflow_mul-e : goal.overflow_mul-e
@@ -19,9 +17,9 @@ overflow_mul-e c =
 
 pub overflow_sub-plan : goal.overflow_sub-plan
 overflow_sub-plan c =
-    omega (arith, first c.before, c.requires)
+    omega (arith, first (goal.at.overflow_sub-plan c).After-pow2-ones, c.requires)
 
 pub returns : goal.returns
 unfolding ranks_of
 returns c =
-    omega (arith, c.min.ensures, c.pow2-ones.ensures, first c.before.before)
+    omega (arith, c.min.ensures, c.pow2-ones.ensures, first (goal.at.returns c).After-pow2-ones)

@@ -4,30 +4,28 @@ use mathlib.Core.Path.{sym, ap, ◌∙◌}
 use native.Mathlib.Omega.{arith}
 use Rattle.read_inventory.specs.Steps.{quantum}
 use Rattle.read_inventory.proofs.Decoding.{Headed, Divided, Numbered, entry_lent, head_in, quantum_low, reading_small, reading_none, reading_past, reading_is}
-use Rattle.read_inventory.proofs.decode.decode.Lts.{After-low_bits, After-read_head, After-shape_of}
-use Rattle.read_inventory.proofs.decode.decode.Reads.{Pre, Post}
-use Rattle.read_inventory.proofs.decode.decode.Tie.{the-claims}
+use Rattle.read_inventory.proofs.decode.decode.Goals.{After-low_bits-subrank, After-read_head-head, After-shape_of-base}
 use Rattle.read_inventory.proofs.decode.decode.Goals as goal
 
-module _ (c : After-read_head the-claims Pre Post) where
+module _ (c : After-read_head-head) where
   headed :
       let a = c.args in
       Headed a.summary a.inventory.now a.spill.now a.rank c.read_head-head.result
   headed = record { readable = c.requires; read = c.read_head-head.ensures }
 
-module _ (c : After-low_bits the-claims Pre Post) where
+module _ (c : After-low_bits-subrank) where
   divided :
       let a = c.args in
       Divided a.summary a.inventory.now a.spill.now a.rank c.read_head-head.result
       c.in-Log2.log2_quantum c.low_bits-subrank.result
   divided =
       record {
-        head = headed c.before.before.before.before;
+        head = headed (goal.at.After-low_bits-subrank c).After-read_head-head;
         spacing = sym (ap quantum c.in-Log2.is) ∙ c.quantum_at.ensures;
         subrank = c.low_bits-subrank.ensures;
       }
 
-module _ (c : After-shape_of the-claims Pre Post) where
+module _ (c : After-shape_of-base) where
   numbered :
       let a = c.args in
       Numbered a.summary a.inventory.now a.spill.now a.rank c.read_head-head.result
@@ -35,7 +33,7 @@ module _ (c : After-shape_of the-claims Pre Post) where
       c.in-Is.spilled c.shape_of-base.result
   numbered =
       record {
-        divided = divided c.before.before.before;
+        divided = divided (goal.at.After-shape_of-base c).After-low_bits-subrank;
         number = sym c.in-Is.is ∙ c.number_at.ensures;
         shape = c.shape_of-base.ensures;
       }
@@ -47,33 +45,33 @@ read_head-head-requires c =
 
 pub quantum_at-requires : goal.quantum_at-requires
 quantum_at-requires c =
-    head_in (headed c.before)
+    head_in (headed c)
 
 pub returns-in_default : goal.returns-in_default
 returns-in_default c =
-    reading_small (headed c.before.before.before) (sym (ap quantum c.in_default.is) ∙ c.quantum_at.ensures)
+    reading_small (headed (goal.at.returns-in_default c).After-read_head-head) (sym (ap quantum c.in_default.is) ∙ c.quantum_at.ensures)
 
 pub overflow_shr-subrank : goal.overflow_shr-subrank
 overflow_shr-subrank c =
-    quantum_low (divided c.before)
+    quantum_low (divided c)
 
 pub number_at-requires : goal.number_at-requires
 number_at-requires c =
-    (head_in (headed c.before.before.before.before.before), c.requires.held.over)
+    (head_in (headed (goal.at.number_at-requires c).After-read_head-head), c.requires.held.over)
 
 pub returns-in_default-number_at : goal.returns-in_default-number_at
 returns-in_default-number_at c =
-    reading_none (divided c.before.before.before) (sym c.in_default-number_at.is ∙ c.number_at.ensures)
+    reading_none (divided (goal.at.returns-in_default-number_at c).After-low_bits-subrank) (sym c.in_default-number_at.is ∙ c.number_at.ensures)
 
 pub returns-then-saturating_sub-number : goal.returns-then-saturating_sub-number
 returns-then-saturating_sub-number c =
-    reading_past (numbered c.before.before.before) (omega (arith, c.saturating_sub.ensures, c.if-saturating_sub-number.true))
+    reading_past (numbered (goal.at.returns-then-saturating_sub-number c).After-shape_of-base) (omega (arith, c.saturating_sub.ensures, c.if-saturating_sub-number.true))
 
 pub low_bits-residual-requires : goal.low_bits-residual-requires
 low_bits-residual-requires c =
-    quantum_low (divided c.before.before.before.before.before.before)
+    quantum_low (divided (goal.at.low_bits-residual-requires c).After-low_bits-subrank)
 
 pub returns : goal.returns
 returns c =
-    reading_is (numbered c.before.before.before.before) (omega (arith, c.saturating_sub.ensures, c.if-saturating_sub-number.false)) c.low_bits-residual.result
+    reading_is (numbered (goal.at.returns c).After-shape_of-base) (omega (arith, c.saturating_sub.ensures, c.if-saturating_sub-number.false)) c.low_bits-residual.result
     c.low_bits-residual.ensures

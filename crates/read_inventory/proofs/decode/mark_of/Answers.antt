@@ -6,12 +6,10 @@ use borrow.Author.Rules.{rules}
 use Rattle.read_inventory.specs.Read.{entry_of_rank}
 use Rattle.read_inventory.specs.Steps.{EntryLent}
 use Rattle.read_inventory.proofs.Decoding.{Quartered, entry_lent, quarter_in, quarter_fits, quarter_past, quarter_is, decoded_marks}
-use Rattle.read_inventory.proofs.decode.mark_of.Lts.{After-low_bits, After-plan}
-use Rattle.read_inventory.proofs.decode.mark_of.Reads.{Pre, Post}
-use Rattle.read_inventory.proofs.decode.mark_of.Tie.{the-claims}
+use Rattle.read_inventory.proofs.decode.mark_of.Goals.{After-low_bits-subrank, After-plan-1}
 use Rattle.read_inventory.proofs.decode.mark_of.Goals as goal
 
-module _ (c : After-plan the-claims Pre Post) where
+module _ (c : After-plan-1) where
   lent :
       let a = c.args in
       EntryLent a.summary a.inventory.now (entry_of_rank a.summary a.rank)
@@ -19,7 +17,7 @@ module _ (c : After-plan the-claims Pre Post) where
       let a = c.args in
       entry_lent a.summary a.inventory.now a.spill.now a.rank c.requires
 
-module _ (c : After-low_bits the-claims Pre Post) where
+module _ (c : After-low_bits-subrank) where
   quartered :
       let a = c.args in
       Quartered a.summary a.inventory.now a.spill.now a.rank c.first_cell-cell.result c.low_bits-subrank.result
@@ -33,15 +31,15 @@ module _ (c : After-low_bits the-claims Pre Post) where
 
 pub first_cell-cell-requires : goal.first_cell-cell-requires
 first_cell-cell-requires c =
-    let l = lent c.before in search rules
+    let l = lent c in search rules
 
 pub offset_bounds-inventory-cell : goal.offset_bounds-inventory-cell
 offset_bounds-inventory-cell c =
-    let l = lent c.before.before in search rules
+    let l = lent (goal.at.offset_bounds-inventory-cell c).After-plan-1 in search rules
 
 pub bounds-inventory-cell : goal.bounds-inventory-cell
 bounds-inventory-cell c =
-    let l = lent c.before.before.before in
+    let l = lent (goal.at.bounds-inventory-cell c).After-plan-1 in
     search rules
 
 pub returns-in_default : goal.returns-in_default
@@ -50,21 +48,21 @@ returns-in_default c =
 
 pub overflow_add-cell : goal.overflow_add-cell
 overflow_add-cell c =
-    record { fits = omega (arith, quarter_in (quartered c.before)) }
+    record { fits = omega (arith, quarter_in (quartered c)) }
 
 pub quarter_at-requires : goal.quarter_at-requires
 quarter_at-requires c =
-    quarter_in (quartered c.before)
+    quarter_in (quartered c)
 
 pub overflow_add-mark : goal.overflow_add-mark
 overflow_add-mark c =
-    record { fits = quarter_fits (quartered c.before.before) c.quarter_at.result c.quarter_at.ensures }
+    record { fits = quarter_fits (quartered (goal.at.overflow_add-mark c).After-low_bits-subrank) c.quarter_at.result c.quarter_at.ensures }
 
 pub returns-then-plan-mark : goal.returns-then-plan-mark
 returns-then-plan-mark c =
-    quarter_past (quartered c.before.before.before.before) c.quarter_at.result c.quarter_at.ensures c.if-plan-mark.true
+    quarter_past (quartered (goal.at.returns-then-plan-mark c).After-low_bits-subrank) c.quarter_at.result c.quarter_at.ensures c.if-plan-mark.true
 
 pub returns : goal.returns
 returns c =
-    quarter_is (quartered c.before.before.before.before.before) c.quarter_at.result c.quarter_at.ensures c.if-plan-mark.false
+    quarter_is (quartered (goal.at.returns c).After-low_bits-subrank) c.quarter_at.result c.quarter_at.ensures c.if-plan-mark.false
     c.low_bits.result c.low_bits.ensures

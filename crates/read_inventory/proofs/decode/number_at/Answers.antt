@@ -4,12 +4,10 @@ use native.Mathlib.Omega.{arith}
 use borrow.Author.Rules.{rules}
 use Rattle.inventory.proofs.Shapes.{shaped}
 use Rattle.read_inventory.proofs.Reading.{Spotted, second_in, own_in, own_lane, over_lane, number_start, number_own, number_missing, number_over}
-use Rattle.read_inventory.proofs.decode.number_at.Lts.{After-place_of}
-use Rattle.read_inventory.proofs.decode.number_at.Reads.{Pre, Post}
-use Rattle.read_inventory.proofs.decode.number_at.Tie.{the-claims}
+use Rattle.read_inventory.proofs.decode.number_at.Goals.{After-place_of-spot}
 use Rattle.read_inventory.proofs.decode.number_at.Goals as goal
 
-module _ (c : After-place_of the-claims Pre Post) where
+module _ (c : After-place_of-spot) where
   spotted :
       let a = c.args in
       Spotted a.summary a.inventory.now a.head.entry a.i a.head c.shape_of-shape.result c.place_of-spot.result
@@ -39,7 +37,7 @@ overflow_add-at c =
     record {
       fits = omega (
         arith,
-        own_in (spotted c.before.before.before) _ _ c.in-Own.is,
+        own_in (spotted (goal.at.overflow_add-at c).After-place_of-spot) _ _ c.in-Own.is,
       );
     }
 
@@ -48,22 +46,22 @@ overflow_add-at-in-Own c =
     record {
       fits = omega (
         arith,
-        own_in (spotted c.before.before.before) _ _ c.in-Own.is,
+        own_in (spotted (goal.at.overflow_add-at-in-Own c).After-place_of-spot) _ _ c.in-Own.is,
       );
     }
 
 pub offset_bounds-inventory-at : goal.offset_bounds-inventory-at
 offset_bounds-inventory-at c =
-    let h = own_in (spotted c.before.before.before) _ _ c.in-Own.is in
+    let h = own_in (spotted (goal.at.offset_bounds-inventory-at c).After-place_of-spot) _ _ c.in-Own.is in
     search rules
 
 pub bounds-inventory-at : goal.bounds-inventory-at
 bounds-inventory-at c =
-    omega (arith, own_in (spotted c.before.before.before.before) _ _ c.in-Own.is)
+    omega (arith, own_in (spotted (goal.at.bounds-inventory-at c).After-place_of-spot) _ _ c.in-Own.is)
 
 pub lane_of-requires : goal.lane_of-requires
 lane_of-requires c =
-    own_lane (spotted c.before.before.before.before) _ _ c.in-Own.is
+    own_lane (spotted (goal.at.lane_of-requires c).After-place_of-spot) _ _ c.in-Own.is
 
 pub offset_bounds-inventory-first : goal.offset_bounds-inventory-first
 offset_bounds-inventory-first c =
@@ -78,23 +76,23 @@ bounds-inventory-first c =
 
 pub returns-then-saturating_sub-n : goal.returns-then-saturating_sub-n
 returns-then-saturating_sub-n c =
-    number_missing (spotted c.before.before.before.before.before) c.args.spill.now _ _ c.in-Over.is
+    number_missing (spotted (goal.at.returns-then-saturating_sub-n c).After-place_of-spot) c.args.spill.now _ _ c.in-Over.is
     (omega (arith, c.saturating_sub.ensures, c.if-saturating_sub-n.true))
 
 pub lane_of-requires-in-Over : goal.lane_of-requires-in-Over
 lane_of-requires-in-Over c =
-    over_lane (spotted c.before.before.before.before.before.before) _ _ c.in-Over.is
+    over_lane (spotted (goal.at.lane_of-requires-in-Over c).After-place_of-spot) _ _ c.in-Over.is
 
 pub returns-in-Start : goal.returns-in-Start
 returns-in-Start c =
-    number_start (spotted c.before.before) c.args.spill.now c.in-Start.is
+    number_start (spotted (goal.at.returns-in-Start c).After-place_of-spot) c.args.spill.now c.in-Start.is
 
 pub returns-in-Own : goal.returns-in-Own
 returns-in-Own c =
-    number_own (spotted c.before.before.before.before.before) c.args.spill.now _ _ c.lane_of.result c.in-Own.is
+    number_own (spotted (goal.at.returns-in-Own c).After-place_of-spot) c.args.spill.now _ _ c.lane_of.result c.in-Own.is
     c.lane_of.ensures
 
 pub returns-else-saturating_sub-n : goal.returns-else-saturating_sub-n
 returns-else-saturating_sub-n c =
-    number_over (spotted c.before.before.before.before.before.before.before) c.args.spill.now _ _ c.lane_of-in-Over.result c.in-Over.is
+    number_over (spotted (goal.at.returns-else-saturating_sub-n c).After-place_of-spot) c.args.spill.now _ _ c.lane_of-in-Over.result c.in-Over.is
     (omega (arith, c.saturating_sub.ensures, c.if-saturating_sub-n.false)) c.lane_of-in-Over.ensures

@@ -5,12 +5,10 @@ use native.Mathlib.Omega.{arith}
 use lib.ListN.{length}
 use borrow.Author.Rules.{rules}
 use Rattle.read_inventory.proofs.Reading.{span_read, next_in}
-use Rattle.read_inventory.proofs.decode.span_at.Lts.{After-entry_len}
-use Rattle.read_inventory.proofs.decode.span_at.Reads.{Pre, Post}
-use Rattle.read_inventory.proofs.decode.span_at.Tie.{the-claims}
+use Rattle.read_inventory.proofs.decode.span_at.Goals.{After-entry_len}
 use Rattle.read_inventory.proofs.decode.span_at.Goals as goal
 
-module _ (c : After-entry_len the-claims Pre Post) where
+module _ (c : After-entry_len) where
   next : c.args.head.cell + c.entry_len.result < length c.args.inventory.now
   next =
       let a = c.args in
@@ -23,15 +21,15 @@ entry_len-requires c =
 
 pub overflow_add-next : goal.overflow_add-next
 overflow_add-next c =
-    record { fits = omega (arith, next c.before.before) }
+    record { fits = omega (arith, next (goal.at.overflow_add-next c).After-entry_len) }
 
 pub offset_bounds-inventory-next : goal.offset_bounds-inventory-next
 offset_bounds-inventory-next c =
-    let h = next c.before.before in search rules
+    let h = next (goal.at.offset_bounds-inventory-next c).After-entry_len in search rules
 
 pub bounds-inventory-next : goal.bounds-inventory-next
 bounds-inventory-next c =
-    next c.before.before.before
+    next (goal.at.bounds-inventory-next c).After-entry_len
 
 pub returns : goal.returns
 returns c =

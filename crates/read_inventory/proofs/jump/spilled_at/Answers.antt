@@ -4,12 +4,10 @@ use native.Mathlib.Omega.{arith}
 use lib.Pow.{pow_pos}
 use Rattle.rank_sel.proofs.Ceil.{ceil_le}
 use Rattle.inventory.proofs.Ranks.{ranks_few}
-use Rattle.read_inventory.proofs.jump.spilled_at.Lts.{After-entry_ranks}
-use Rattle.read_inventory.proofs.jump.spilled_at.Reads.{Pre, Post}
-use Rattle.read_inventory.proofs.jump.spilled_at.Tie.{the-claims}
+use Rattle.read_inventory.proofs.jump.spilled_at.Goals.{After-entry_ranks-ranks}
 use Rattle.read_inventory.proofs.jump.spilled_at.Goals as goal
 
-module _ (c : After-entry_ranks the-claims Pre Post) where
+module _ (c : After-entry_ranks-ranks) where
   few : c.entry_ranks-ranks.result < 2 ^ 62
   few = omega (arith, c.entry_ranks-ranks.ensures, ranks_few c.args.plan c.args.decoded.head.entry, c.requires.few)
 
@@ -20,7 +18,7 @@ ceil_shift-requires c =
 pub spilled_by-requires : goal.spilled_by-requires
 spilled_by-requires c =
     let q = c.args.decoded.log2_quantum in (
-      omega (arith, c.ceil_shift.ensures, few c.before, ceil_le c.entry_ranks-ranks.result (2 ^ q) (pow_pos q)),
+      omega (arith, c.ceil_shift.ensures, few (goal.at.spilled_by-requires c).After-entry_ranks-ranks, ceil_le c.entry_ranks-ranks.result (2 ^ q) (pow_pos q)),
       c.requires.small_m,
     )
 

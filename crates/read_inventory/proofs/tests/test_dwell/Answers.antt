@@ -2,12 +2,10 @@
 use Rattle.rank_sel.proofs.Outcome.{Tells, stops, goes_on}
 use Rattle.spacing.specs.Spacing.{N}
 use Rattle.read_inventory.specs.Tests.{of_index, of_ranks}
-use Rattle.read_inventory.proofs.tests.test_dwell.Lts.{After-test_index}
-use Rattle.read_inventory.proofs.tests.test_dwell.Reads.{Pre, Post}
-use Rattle.read_inventory.proofs.tests.test_dwell.Tie.{the-claims}
+use Rattle.read_inventory.proofs.tests.test_dwell.Goals.{After-test_index-index}
 use Rattle.read_inventory.proofs.tests.test_dwell.Goals as goal
 
-module _ (c : After-test_index the-claims Pre Post) where
+module _ (c : After-test_index-index) where
   index_told : Tells
       (of_index c.args.words.now c.args.summary c.args.inventory.now c.args.spill.now)
       c.test_index-index.result
@@ -16,10 +14,10 @@ module _ (c : After-test_index the-claims Pre Post) where
 pub returns-in_default : goal.returns-in_default
 returns-in_default c =
     let a = c.args in
-    (stops (index_told c.before.before) (of_ranks (N a.summary.plan) a.a a.b) c.in_default.is).told
+    (stops (index_told (goal.at.returns-in_default c).After-test_index-index) (of_ranks (N a.summary.plan) a.a a.b) c.in_default.is).told
 
 pub returns : goal.returns
 returns c =
     let a = c.args in
-    (goes_on (index_told c.before.before.before) (of_ranks (N a.summary.plan) a.a a.b) {y = c.test_ranks.result}
+    (goes_on (index_told (goal.at.returns c).After-test_index-index) (of_ranks (N a.summary.plan) a.a a.b) {y = c.test_ranks.result}
     c.in-Passed.is (record { told = c.test_ranks.ensures })).told

@@ -1,12 +1,10 @@
 use Rattle.std.proofs.Common.{arith, pow_pos, rules}
 use Rattle.rank_sel.proofs.Shift.{shl_one}
 use Rattle.spacing.proofs.Span.{span_most, Turn, span_turn}
-use Rattle.spacing.proofs.wide.span_log2.Lts.{After-wide_less}
-use Rattle.spacing.proofs.wide.span_log2.Reads.{Pre, Post}
-use Rattle.spacing.proofs.wide.span_log2.Tie.{the-claims}
+use Rattle.spacing.proofs.wide.span_log2.Goals.{After-wide_less}
 use Rattle.spacing.proofs.wide.span_log2.Goals as goal
 
-module _ (c : After-wide_less the-claims Pre Post goal.the-invariant-loop-l goal.the-decreases-loop-l) where
+module _ (c : After-wide_less) where
   turn :
       let a = c.args in
       Turn a.num a.span a.len c.loop-l.l c.wide_less.result
@@ -28,11 +26,11 @@ overflow_sub-l c =
 
 pub returns-then-wide_less : goal.returns-then-wide_less
 returns-then-wide_less c =
-    (turn c.before).found c.if-wide_less.true
+    (turn (goal.at.returns-then-wide_less c).After-wide_less).found c.if-wide_less.true
 
 pub loop-l-preserved : goal.loop-l-preserved
 loop-l-preserved c =
-    (search rules, (turn c.before).passed c.if-wide_less.false c.loop-l-test.true)
+    (search rules, (turn (goal.at.loop-l-preserved c).After-wide_less).passed c.if-wide_less.false c.loop-l-test.true)
 
 pub returns : goal.returns
 returns c =

@@ -1,11 +1,10 @@
 -- The four products of the halves are at most (2^32 - 1)^2, so that the steps fit; together they make the whole (`whole`).
 use Rattle.std.proofs.Common.{arith}
 use Rattle.spacing.proofs.Products.{Halves, halves, whole}
-use Rattle.spacing.proofs.wide.wide_mul.Lts.{Start}
-use Rattle.spacing.proofs.wide.wide_mul.Reads.{Pre, Post}
+use Rattle.spacing.proofs.wide.wide_mul.Goals.{Start}
 use Rattle.spacing.proofs.wide.wide_mul.Goals as goal
 
-four : (c : Start Pre Post) → Halves c.args.a c.args.b
+four : (c : Start) → Halves c.args.a c.args.b
 four c = halves c.args.a c.args.b c.ranges.a.fits c.ranges.b.fits
 
 pub overflow_mul-low : goal.overflow_mul-low
