@@ -1,7 +1,8 @@
 // The command line: each argument ends in a zero byte. Options stand anywhere; of the others the first names the
 // capture, and the rest are edge numbers.
 ghost use Rattle.std.specs.Prelude.{◌≤◌, length, IfOk};
-ghost use Rattle.find_edge_lib.specs.Arguments.{IsPrefixLen, Within};
+ghost use Rattle.std.specs.Counts.{IsPrefixLen};
+ghost use Rattle.find_edge_lib.specs.Arguments.{Within};
 
 use crate::report;
 use edge_index::Choice;

@@ -1,7 +1,7 @@
 // Reads the capture into words.
 ghost use Rattle.std.specs.Prelude.{◌<◌, length, take, IfOk};
 ghost use Rattle.std.specs.Io.KnownBytes.{Consumes, IsAtEnd};
-ghost use Rattle.find_edge_lib.specs.Arguments.{IsPrefixLen};
+ghost use Rattle.std.specs.Counts.{IsPrefixLen};
 
 use find_edge_input::pack;
 use std::io;
