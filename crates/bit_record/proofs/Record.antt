@@ -9,12 +9,12 @@ use native.Mathlib.Omega.{arith}
 use lib.Bits.{bit_and, and_mask}
 use lib.Count.{ones}
 use lib.Dec.{leb}
-use lib.ListN.{get_or}
+use lib.ListN.{length, get_or}
 use lib.Pow.{pow_pos, pow_mono}
 use borrow.Author.Tests.{lt-ltb, le-ltb, lt-leb, le-leb}
 use Rattle.rank_sel.specs.Rank.{rank}
 use Rattle.rank_sel.proofs.Numbers.{lt_or_le}
-use Rattle.rank_sel.proofs.Rank.{rank_flat, rank_le}
+use Rattle.rank_sel.proofs.Rank.{rank-zero, rank_add, rank_ext, rank_flat, rank_le}
 use Rattle.select_in_word.specs.Bit.{bit}
 use Rattle.select_in_word.specs.Holds.{Holds}
 use Rattle.select_in_word.specs.Tail.{tail_mask}
@@ -99,23 +99,52 @@ pub rank_num : (pol : Polarity) (ws : List ℕ) (len p : ℕ) → len ≤ p → 
 unfolding num_selected
 rank_num pol ws len p h = rank_flat (selected pol ws len) len p h (selected_out pol ws len)
 
+-- bit q of a part of the words
+part_bit : (pol : Polarity) (ws vs : List ℕ) (len i m q : ℕ) → ((q : ℕ) → q < m → get_or vs q 0 ≡ get_or ws (i + q) 0)
+    → 64 * (i + m) ≤ len → q < 64 * m → selected pol ws len (64 * i + q) ≡ selected pol vs (64 * m) q
+unfolding bit_at
+part_bit pol ws vs len i m q same l h =
+    let d : (64 * i + q) / 64 ≡ i + q / 64 = omega arith in
+    let r : (64 * i + q) % 64 ≡ q % 64 = omega arith in
+    selected_in pol ws len (64 * i + q) (omega arith)
+    ∙ ap (λ (x : ℕ). chosen pol (bit (get_or ws x 0) ((64 * i + q) % 64))) d
+    ∙ ap (λ (x : ℕ). chosen pol (bit (get_or ws (i + q / 64) 0) x)) r
+    ∙ ap (λ (x : ℕ). chosen pol (bit x (q % 64))) (sym (same (q / 64) (omega arith)))
+    ∙ sym (selected_in pol vs (64 * m) q h)
+
 pub words_none : (pol : Polarity) (ws : List ℕ) (i : ℕ) → CountsWords pol ws i 0 0
 words_none pol ws i =
     record { exact = λ len l. add-zero (rank (selected pol ws len) (64 * i)) ∙ ap (rank (selected pol ws len)) (omega arith) }
 
--- one word more
-pub words_more : (pol : Polarity) (ws : List ℕ) (i m n : ℕ) → CountsWords pol ws i m n → get_or ws (i + m) 0 < 2 ^ 64
-    → CountsWords pol ws i (m + 1) (n + ones (complemented pol (get_or ws (i + m) 0)))
-words_more pol ws i m n v h = record {
+-- one word more, number j
+pub words_more : (pol : Polarity) (ws : List ℕ) (i m n j : ℕ) → i + m ≡ j → CountsWords pol ws i m n → get_or ws j 0 < 2 ^ 64
+    → CountsWords pol ws i (m + 1) (n + ones (complemented pol (get_or ws j 0)))
+words_more pol ws i m n j e v h = record {
   exact = λ len l.
-      let e : rank (selected pol ws len) (64 * (i + (m + 1))) ≡ rank (selected pol ws len) (64 * (i + m) + 64) =
-      ap (rank (selected pol ws len)) (omega arith) in
+      let f = selected pol ws len in
+      let a : rank f (64 * (i + m)) ≡ rank f (64 * j) = ap (rank f) (omega arith) in
+      let b : rank f (64 * (i + (m + 1))) ≡ rank f (64 * j + 64) = ap (rank f) (omega arith) in
       omega (
         arith,
         v.exact len (omega arith),
-        holds_ones 64 (selected pol ws len) (64 * (i + m)) (complemented pol (get_or ws (i + m) 0))
-            (holds_full pol ws len (i + m) h (omega arith)),
+        holds_ones 64 f (64 * j) (complemented pol (get_or ws j 0)) (holds_full pol ws len j h (omega arith)),
       );
+}
+
+-- what is counted of a part of the words is counted of them there
+pub words_part : (pol : Polarity) (ws vs : List ℕ) (i m n : ℕ) → length vs ≡ m → ((q : ℕ) → q < m → get_or vs q 0 ≡ get_or ws (i + q) 0)
+    → CountsWords pol vs 0 (length vs) n → CountsWords pol ws i m n
+words_part pol ws vs i m n k same v = record {
+  exact = λ len l.
+      let f = selected pol ws len in
+      let part = selected pol vs (64 * m) in
+      let t : rank part (64 * 0) + n ≡ rank part (64 * (0 + length vs)) = v.exact (64 * m) (omega arith) in
+      let z : rank part (64 * 0) ≡ 0 = rank-zero part in
+      let e : rank part (64 * (0 + length vs)) ≡ rank part (64 * m) = ap (rank part) (omega arith) in
+      let a : rank f (64 * (i + m)) ≡ rank f (64 * i + 64 * m) = ap (rank f) (omega arith) in
+      let s : rank (λ j. f (64 * i + j)) (64 * m) ≡ rank part (64 * m) =
+      rank_ext (λ j. f (64 * i + j)) part (64 * m) (λ q h. part_bit pol ws vs len i m q same (omega arith) h) in
+      omega (arith, rank_add f (64 * i) (64 * m));
 }
 
 pub words_most : (pol : Polarity) (ws : List ℕ) (i m n : ℕ) → CountsWords pol ws i m n → n ≤ 64 * (i + m)

@@ -1,4 +1,5 @@
 -- Seeking in a record, as the loop over its words does.
+use Rattle.std.specs.Prelude.{Option, Some, None, Result, Ok, Err}
 use mathlib.Core.Path.{◌≡◌, sym, ap, subst, ◌∙◌}
 use mathlib.Core.Logic.{inl, inr, ⊎_elim}
 use mathlib.Core.Bool.{Bool, true}
@@ -16,15 +17,12 @@ use Rattle.rank_sel.proofs.Seek.{seek_at, seek_empty, seek_same}
 use Rattle.select_in_word.specs.Bit.{bit}
 use Rattle.select_in_word.specs.Holds.{Holds}
 use Rattle.select_in_word.specs.Select.{said, seek_in_word}
-use Rattle.select_in_word.specs.declared.WordSeek.{WordSeek}
-use Rattle.select_in_word.specs.declared.WordSeek.TheVariants as WordSeekVariants
 use Rattle.select_in_word.proofs.Bit.{bit_past}
 use Rattle.select_in_word.proofs.Holds.{holds_from, holds_less, holds_ones, holds_sought}
 use Rattle.select_in_word.proofs.Select.{word_seek_found, word_seek_missing}
 use Rattle.bit_record.specs.Record.{selected, Finds}
 use Rattle.bit_record.specs.declared.Polarity.{Polarity}
-use Rattle.bit_record.specs.declared.RecordSeek.{RecordSeek}
-use Rattle.bit_record.specs.declared.RecordSeek.TheVariants.{At, Nowhere}
+use Rattle.bit_record.specs.declared.Found.{Found}
 use Rattle.bit_record.proofs.Record.{selected_lt, rank_num}
 
 pub record_at : (pol : Polarity) (ws : List ℕ) (len from k p : ℕ) → from ≤ p → selected pol ws len p ≡ true
@@ -42,14 +40,14 @@ record_none pol ws len from k p l r =
 -- the same with the word of number i, which has the position
 pub finds_at : (pol : Polarity) (ws : List ℕ) (len from k p i w : ℕ) → from ≤ p → selected pol ws len p ≡ true
     → rank (selected pol ws len) p ≡ rank (selected pol ws len) from + k → p / 64 ≡ i → Holds 64 (selected pol ws len) (64 * i) w
-    → Finds (selected pol ws len) (len - from) from k (At p w)
+    → Finds (selected pol ws len) (len - from) from k (Some (record { position = p; word = w }))
 finds_at pol ws len from k p i w l e r n h = record {
   position = record_at pol ws len from k p l e r;
   word = subst (λ (j : ℕ). Holds 64 (selected pol ws len) (64 * j) w) (sym n) h;
 }
 
 pub finds_none : (pol : Polarity) (ws : List ℕ) (len from k p : ℕ) → len ≤ p
-    → rank (selected pol ws len) p ≤ rank (selected pol ws len) from + k → Finds (selected pol ws len) (len - from) from k Nowhere
+    → rank (selected pol ws len) p ≤ rank (selected pol ws len) from + k → Finds (selected pol ws len) (len - from) from k None
 finds_none pol ws len from k p l r = record { position = record_none pol ws len from k p l r; word = tt }
 
 -- a seek goes on from a later place with what remains
@@ -61,7 +59,7 @@ seek_on pol ws len from k next left l e =
     (λ (h : len ≤ next).
     sym (record_none pol ws len next left next h (omega arith)) ∙ record_none pol ws len from k next h (omega arith)) (lt_or_le next len)
 
-pub finds_on : (pol : Polarity) (ws : List ℕ) (len from k next left : ℕ) (r : RecordSeek) → from < len
+pub finds_on : (pol : Polarity) (ws : List ℕ) (len from k next left : ℕ) (r : Option Found) → from < len
     → rank (selected pol ws len) next + left ≡ rank (selected pol ws len) from + k
     → Finds (selected pol ws len) (len - next) next left r → Finds (selected pol ws len) (len - from) from k r
 finds_on pol ws len from k next left r l e s = record { position = s.position ∙ seek_on pol ws len from k next left l e; word = s.word }
@@ -88,7 +86,7 @@ module _ (m : ℕ) (f : ℕ → Bool) (p w k : ℕ) (le : m ≤ 64) (held : Hold
       (omega arith, holds_ones m f p w held ∙ ap (λ (x : ℕ). rank f p + x) (sym s.0))
 
 -- from a position on, in its own word and then in those after it; x is what seeking in the rest of the word says
-module _ (pol : Polarity) (ws : List ℕ) (len from w k : ℕ) (x : WordSeek) where
+module _ (pol : Polarity) (ws : List ℕ) (len from w k : ℕ) (x : Result ℕ ℕ) where
   abbrev f : ℕ → Bool
   f = selected pol ws len
 
@@ -101,24 +99,24 @@ module _ (pol : Polarity) (ws : List ℕ) (len from w k : ℕ) (x : WordSeek) wh
     rest : Holds (64 - from % 64) f from (w / 2 ^ (from % 64))
     rest = holds_from f from w s.word
 
-    pub sought : (p : ℕ) → x ≡ WordSeekVariants.At p → Sought f (64 - from % 64) from k (from + p)
+    pub sought : (p : ℕ) → x ≡ Ok p → Sought f (64 - from % 64) from k (from + p)
     sought p e = word_found (64 - from % 64) f from (w / 2 ^ (from % 64)) k (omega arith) rest p (sym (ap said e) ∙ s.told)
 
-    pub passed : (n : ℕ) → x ≡ WordSeekVariants.Past n → (n ≤ k) × (rank f (from + (64 - from % 64)) ≡ rank f from + n)
+    pub passed : (n : ℕ) → x ≡ Err n → (n ≤ k) × (rank f (from + (64 - from % 64)) ≡ rank f from + n)
     passed n e = word_passed (64 - from % 64) f from (w / 2 ^ (from % 64)) k (omega arith) rest n (sym (ap said e) ∙ s.told)
 
-    pub here_small : (p : ℕ) → x ≡ WordSeekVariants.At p → from + p < len + 64
+    pub here_small : (p : ℕ) → x ≡ Ok p → from + p < len + 64
     here_small p e = omega (arith, (sought p e).high, s.low)
 
-    pub here_finds : (p : ℕ) → x ≡ WordSeekVariants.At p → Finds f (len - from) from k (At (from + p) w)
+    pub here_finds : (p : ℕ) → x ≡ Ok p → Finds f (len - from) from k (Some (record { position = from + p; word = w }))
     here_finds p e =
         let q = sought p e in
         finds_at pol ws len from k (from + p) (from / 64) w (omega arith) q.here q.before (omega (arith, q.high)) s.word
 
-    pub past_less : (n : ℕ) → x ≡ WordSeekVariants.Past n → n ≤ k
+    pub past_less : (n : ℕ) → x ≡ Err n → n ≤ k
     past_less n e = (passed n e).0
 
-    pub past_finds : (n : ℕ) → x ≡ WordSeekVariants.Past n → (r : RecordSeek)
+    pub past_finds : (n : ℕ) → x ≡ Err n → (r : Option Found)
         → Finds f (len - (from + (64 - from % 64))) (from + (64 - from % 64)) (k - n) r → Finds f (len - from) from k r
     past_finds n e r d = finds_on pol ws len from k (from + (64 - from % 64)) (k - n) r s.low (omega (arith, passed n e)) d
 

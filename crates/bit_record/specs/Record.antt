@@ -1,4 +1,5 @@
 -- A record and what is selected in it. Document 01, "What it covers".
+use Rattle.std.specs.Prelude as std
 use Rattle.std.specs.Prelude.{Bool, not, ◌&&◌, List, [], ◌∷◌, ◌++◌, ◌≡◌, ℕ, ◌+◌, ◌-◌, ◌*◌, ◌/◌, ◌%◌, ◌^◌, ◌≤◌, ◌<◌, ltb, length, get_or}
 use Rattle.std.proofs.Math.Option.{Option, none, some}
 use Rattle.rank_sel.specs.Numbers.{ceil_div}
@@ -9,8 +10,7 @@ use Rattle.select_in_word.specs.Bit.{bit}
 use Rattle.select_in_word.specs.Holds.{Holds}
 use Rattle.bit_record.specs.declared.Polarity.{Polarity}
 use Rattle.bit_record.specs.declared.Polarity.TheVariants.{Ones, Zeros}
-use Rattle.bit_record.specs.declared.RecordSeek.{RecordSeek}
-use Rattle.bit_record.specs.declared.RecordSeek.TheVariants as RecordSeekVariants
+use Rattle.bit_record.specs.declared.Found.{Found}
 
 -- bit p is bit p mod 64, lowest first, of word p div 64
 unfoldable pub bit_at : List ℕ → ℕ → Bool
@@ -60,17 +60,17 @@ of_record_from ws len origin = of_len len origin ++ ((too_few_words ws len, 2) �
 unfoldable pub count_of : List ℕ → ℕ → Polarity → Outcome ℕ
 count_of ws len pol = refuse_by (of_record ws len) (answer (num_selected pol ws len))
 
-abbrev pub found : RecordSeek → Option ℕ
-found (RecordSeekVariants.At p w) = some p
-found RecordSeekVariants.Nowhere = none
+abbrev pub found : std.Option Found → Option ℕ
+found (std.Some r) = some r.position
+found std.None = none
 
 -- the 64 positions of the found one's word
-abbrev pub Handed : (ℕ → Bool) → RecordSeek → Type 0
-Handed f (RecordSeekVariants.At p w) = Holds 64 f (64 * (p / 64)) w
-Handed f RecordSeekVariants.Nowhere = Unit {0}
+abbrev pub Handed : (ℕ → Bool) → std.Option Found → Type 0
+Handed f (std.Some r) = Holds 64 f (64 * (r.position / 64)) r.word
+Handed f std.None = Unit {0}
 
 -- what is sought among the n positions from x on, and its word
-pub record Finds (f : ℕ → Bool) (n x k : ℕ) (r : RecordSeek) : Type 0 where
+pub record Finds (f : ℕ → Bool) (n x k : ℕ) (r : std.Option Found) : Type 0 where
   pub position : found r ≡ seek f n x k
   pub word : Handed f r
 

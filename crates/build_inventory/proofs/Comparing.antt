@@ -10,7 +10,7 @@ use native.Mathlib.Omega.{arith}
 use lib.Dec.{eqb}
 use lib.ListN.{length, take, drop, get_or, length-append, length-take}
 use lib.Pow.{pow_pos}
-use lib.Seq.{take-suc, get_or-take, take-add, take-take, take-append-le, take-length, drop_at, length-take-le}
+use lib.Seq.{take-suc, take-add, take-take, take-append-le, take-length, drop_at, length-take-le}
 use borrow.Author.Tests.{eq-eqb, ne_eqb}
 use Rattle.rank_sel.specs.Lists.{same_list}
 use Rattle.rank_sel.proofs.Lists.{same_yes, same_is, same_append}
@@ -57,12 +57,15 @@ module _ (pos : ℕ → ℕ) (x : Entry) (i : ℕ) (l : List ℕ) where
       let w : get_or l n 0 ≡ packed pos x (i + n * x.shape.lanes) = eg ∙ ev ∙ ap (packed pos x) ek in
       rw (add-one n, take-suc l n 0 h, e, w)
 
-  pub same_stop : (n m k v : ℕ) → n < m → k ≡ i + n * x.shape.lanes → v ≡ packed pos x k → (get_or l n 0 ≡ v → ⊥)
-      → take m l ≡ stream pos x i m → ⊥
+  pub same_all : (n : ℕ) → take n l ≡ stream pos x i n → n ≡ length l → l ≡ stream pos x i (length l)
+  same_all n e en = sym (take-length l) ∙ rw en at e
+
+  pub same_stop : (n k v : ℕ) → n < length l → k ≡ i + n * x.shape.lanes → v ≡ packed pos x k → (get_or l n 0 ≡ v → ⊥)
+      → l ≡ stream pos x i (length l) → ⊥
   unfolding stream
-  same_stop n m k v h ek ev ne e =
-      let t = tab_at (λ j. packed pos x (i + j * x.shape.lanes)) m n h in
-      ne (sym (get_or-take m l n 0 h) ∙ ap (λ (z : List ℕ). get_or z n 0) e ∙ t ∙ sym (ev ∙ ap (packed pos x) ek))
+  same_stop n k v h ek ev ne e =
+      let t = tab_at (λ j. packed pos x (i + j * x.shape.lanes)) (length l) n h in
+      ne (ap (λ (z : List ℕ). get_or z n 0) e ∙ t ∙ sym (ev ∙ ap (packed pos x) ek))
 
 -- ---- the cells before the lanes, as they are tested
 pub heads_no : (l : List ℕ) (h a b : ℕ) → h ≤ 1 → 2 ≤ length l → (get_or l 0 0 ≡ a → ⊥)
@@ -108,12 +111,10 @@ module _ (pos : ℕ → ℕ) (x : Entry) (own before : ℕ) (l : List ℕ) (hh :
   module _ (q : Bool)
       (eq : q ≡ same_list (take (1 + x.shape.heads) l) (take (1 + x.shape.heads) ((x.start + x.shape.tag) ∷ before ∷ []))) where
     pub own_yes : (t : Bool) (n k : ℕ) → q ≡ true → n ≡ own - x.shape.heads → k ≡ x.shape.from
-        → t ≡ same_list (take n (take (length l - (1 + x.shape.heads)) (drop (1 + x.shape.heads) l))) (stream pos x k n)
+        → t ≡ same_list (take n (drop (1 + x.shape.heads) l)) (stream pos x k n)
         → t ≡ same_list (take (own + 1) l) (own_cells pos x before own)
     own_yes t n k f en ek e =
-        let h = x.shape.heads in
-        let w : take n (take (length l - (1 + h)) (drop (1 + h) l)) ≡ take n (drop (1 + h) l) = part_take l (1 + h) n (omega arith) in
-        both_yes q t _ _ eq f (e ∙ rw (w, en, ek)) ∙ sym own_split
+        both_yes q t _ _ eq f (e ∙ rw (en, ek)) ∙ sym own_split
 
     pub own_no : q ≡ false → false ≡ same_list (take (own + 1) l) (own_cells pos x before own)
     own_no f = both_no q _ _ eq f ∙ sym own_split

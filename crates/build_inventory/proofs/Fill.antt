@@ -68,8 +68,8 @@ module _ {pos : ℕ → ℕ} {p : Parameters} {l₀ s₀ : List ℕ}
       stand_more {ys} {zs} ec w hy hz = record {
         reached = reached_more v.reached lt ex;
         place = omega (arith, ec, v.place, turn_more e (stride p));
-        long = back_long l₀ l ys at v.long (omega (arith, stand_cells, v.long)) hy;
-        spill_long = back_long s₀ s zs spilled v.spill_long (omega (arith, stand_spill, v.spill_long)) hz;
+        long = back_long l₀ l ys at (length l - at) v.long (omega (arith, stand_cells, v.long)) hy;
+        spill_long = back_long s₀ s zs spilled (length s - spilled) v.spill_long (omega (arith, stand_spill, v.spill_long)) hz;
         inventory =
             part_back (inventory_to pos p e) l l₀ ys (own_cells pos x spilled (2 ^ M p)) at (stride p)
             v.inventory (inventory_length pos p e ∙ sym v.place) (omega (arith, stand_cells, v.long)) w.cells

@@ -6,8 +6,8 @@ use native.Mathlib.Omega.{arith}
 use lib.Dec.{ltb}
 use lib.ListN.{drop}
 use borrow.Author.Tests.{le-ltb, ltb-false}
-use Rattle.rank_sel.specs.Outcome.{Outcome, answer, refused, number_of, refuse_if, refuse_by, and_then}
-use Rattle.rank_sel.specs.declared.Refusal.{Refusal}
+use Rattle.std.specs.Prelude.{Ok}
+use Rattle.rank_sel.specs.Outcome.{Outcome, answer, refuse_if, refuse_by, and_then}
 use Rattle.rank_sel.proofs.Outcome.{answer_is, then_answer, not_refused, refuse_then, passed_all, passing}
 use Rattle.bit_record.specs.Record.{of_record_from, AdmittedFrom}
 use Rattle.bit_record.specs.declared.Polarity.{Polarity}
@@ -18,10 +18,10 @@ use Rattle.spacing.specs.declared.Parameters.{Parameters}
 use Rattle.spacing.proofs.Facts.{plan_facts}
 use Rattle.inventory.specs.Index.{inventory_len_of, inventory_of, spill_of, summary_of}
 use Rattle.inventory.specs.declared.summary.Summary.{Summary}
-use Rattle.build_inventory.specs.Build.{Sizes, fitted, build_from, build_of, BuiltAs}
+use Rattle.build_inventory.specs.declared.Sizes.{Sizes}
+use Rattle.build_inventory.specs.Build.{fitted, build_from, build_of, BuiltAs}
 use Rattle.build_inventory.specs.Positions.{pos_in, spill_len_of}
 use Rattle.build_inventory.specs.Stream.{Filled}
-use Rattle.build_inventory.specs.declared.Built.TheVariants as BuiltVariants
 
 -- ---- a plan's sizes, and its summary
 -- the count of the inventory's cells decides on 6
@@ -111,15 +111,10 @@ admitted_on ws len origin pol choice cells spill t m c k a b =
 module _ (ws inv₀ sp₀ : List ℕ) (o : Outcome Summary) where
   pub built_as : (origin : ℕ) (t : Summary) (inv sp : List ℕ) → answer t ≡ o → t ≡ summary_of (pos_in ws t.plan) t.plan origin
       → Filled (pos_in ws t.plan) t.plan inv₀ inv sp₀ sp
-      → BuiltAs ws o inv₀ inv sp₀ sp (BuiltVariants.Summary t)
+      → BuiltAs ws o inv₀ inv sp₀ sp (Ok t)
   built_as origin t inv sp e is w =
-      subst (λ (z : Outcome Summary). BuiltAs ws z inv₀ inv sp₀ sp (BuiltVariants.Summary t)) e record {
+      subst (λ (z : Outcome Summary). BuiltAs ws z inv₀ inv sp₀ sp (Ok t)) e record {
         answers = refl;
         inventory = w.inventory ∙ ap (λ (z : ℕ). inventory_of (pos_in ws t.plan) t.plan ++ drop z inv₀) (inventory_counted ws origin t is);
         spill = w.spill ∙ ap (λ (z : ℕ). spill_of (pos_in ws t.plan) t.plan ++ drop z sp₀) (spill_counted ws origin t is);
       }
-
-  pub built_not : (r : Refusal) → refused (number_of r) ≡ o → BuiltAs ws o inv₀ inv₀ sp₀ sp₀ (BuiltVariants.Refused r)
-  built_not r e =
-      subst (λ (z : Outcome Summary). BuiltAs ws z inv₀ inv₀ sp₀ sp₀ (BuiltVariants.Refused r)) e
-      record { answers = refl; inventory = refl; spill = refl }

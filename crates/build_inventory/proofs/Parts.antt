@@ -4,7 +4,11 @@ use mathlib.Core.List.{List, [], ◌∷◌, ◌++◌, append_assoc, append-nil}
 use Prim.Native.Nat.{ℕ, zero, suc, ◌+◌, ◌-◌, ◌≤◌}
 use native.Mathlib.Omega.{arith}
 use lib.ListN.{length, take, drop, set, length-append, length-take, length-drop, drop_of_length-le}
-use lib.Seq.{drop_at, take_at, take_all, take-take, drop-drop}
+use lib.Seq.{drop_at, take_at, take_all, take-take, drop-drop, length-take-le}
+
+-- n cells of it
+pub part_long : (l : List ℕ) (k n : ℕ) → n + k ≤ length l → length (take n (drop k l)) ≡ n
+part_long l k n h = length-take-le n (drop k l) (simp length-drop (omega arith))
 
 -- it has room for n cells
 pub part_fits : (l : List ℕ) (k n : ℕ) → n + k ≤ length l → n ≤ length (take (length l - k) (drop k l))
@@ -26,10 +30,10 @@ part_back p l l₀ ys e k m el ep hk ey =
     rw (ey, t, d, take_all (length l - k) (drop k l₀) h, drop_of_length-le (drop k l₀) h, append-nil, drop-drop, append_assoc)
 
 -- as long as it was, it leaves the whole as long as it was
-pub back_long : (l₀ l ys : List ℕ) (k : ℕ) → length l ≡ length l₀ → k ≤ length l₀ → length ys ≡ length (take (length l - k) (drop k l))
-    → length (take k l ++ (ys ++ drop (length l - k) (drop k l))) ≡ length l₀
-back_long l₀ l ys k e h ey =
-    let f : length ys ≡ length l - k = ey ∙ simp (length-take, length-drop) (omega arith) in
+pub back_long : (l₀ l ys : List ℕ) (k n : ℕ) → length l ≡ length l₀ → n + k ≤ length l₀ → length ys ≡ length (take n (drop k l))
+    → length (take k l ++ (ys ++ drop n (drop k l))) ≡ length l₀
+back_long l₀ l ys k n e h ey =
+    let f : length ys ≡ n = ey ∙ part_long l k n (omega arith) in
     simp (length-append, length-take, length-drop) (omega arith)
 
 -- the two heads at the front

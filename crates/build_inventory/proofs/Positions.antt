@@ -17,7 +17,10 @@ use Rattle.inventory.specs.Index.{mark, bound, start_of}
 use Rattle.inventory.specs.declared.entry.Entry.{Entry}
 use Rattle.inventory.proofs.Lanes.{turn_more}
 use Rattle.inventory.proofs.Marks.{Streamable, rising, entry_streamable}
-use Rattle.build_inventory.specs.Positions.{pos_in, seek_or_end, EntryIn}
+use Rattle.build_inventory.specs.Placed.{pos_at}
+use Rattle.build_inventory.specs.declared.planned.Placed.{Placed}
+use Rattle.build_inventory.specs.declared.planned.Planned.{Planned}
+use Rattle.build_inventory.specs.Positions.{pos_in, seek_or_end}
 
 module _ (ws : List ℕ) (p : Parameters) (h : PlanOf ws p) where
   -- what the record selects
@@ -27,11 +30,6 @@ module _ (ws : List ℕ) (p : Parameters) (h : PlanOf ws p) where
   count : N p ≡ rank bits p.len
   unfolding num_selected
   count = h.num
-
-  pub streamable : (x : Entry) → EntryIn ws p x → Streamable (pos_in ws p) p x
-  streamable x i =
-      subst⁻¹ (λ (z : Entry). Streamable (pos_in ws p) p z) i.is
-      (entry_streamable (pos_in ws p) p (rising ws p h) i.number i.within)
 
   -- k ranks on from the bit of rank r
   pub bound_next : (r k from n : ℕ) → r < N p → from ≡ pos_in ws p r → n ≡ k
@@ -59,3 +57,13 @@ module _ (ws : List ℕ) (p : Parameters) (h : PlanOf ws p) where
       let q = 2 ^ x.log2_quantum in
       let e : x.first + k * q + q ≡ x.first + (k + 1) * q = omega (arith, turn_more k q) in
       rw (ef, en, select-seek bits p.len (x.first + k * q) q (omega (arith, s.within (k + 1) l, count)), e)
+
+-- its count and L are small
+pub small : (r : Planned) → (N r.plan < 2 ^ 62) × (L r.plan ≤ 63)
+small r = (omega (arith, r.of.admitted.short, r.of.few), r.of.small_l)
+
+-- what a placed entry's stream needs
+pub streams : (r : Placed) → Streamable (pos_at r) r.plan r.entry
+streams r =
+    subst⁻¹ (λ (z : Entry). Streamable (pos_at r) r.plan z) r.is
+    (entry_streamable (pos_at r) r.plan (rising r.words.now r.plan r.of) r.number r.within)

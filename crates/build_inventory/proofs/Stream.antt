@@ -1,11 +1,11 @@
 -- The stream of an entry's cells, as a loop writes it, and the bound of its cursor.
 use mathlib.Core.Path.{◌≡◌, refl, sym, ap, ◌∙◌}
-use mathlib.Core.List.{List, [], ◌∷◌, ◌++◌}
+use mathlib.Core.List.{List, [], ◌∷◌, ◌++◌, append_assoc, append-nil}
 use Prim.Native.Nat.{ℕ, ◌+◌, ◌-◌, ◌*◌, ◌^◌, ◌≤◌, ◌<◌}
 use native.Mathlib.Nat.{mul-le-mul_left}
 use native.Mathlib.Omega.{arith}
-use lib.ListN.{length, take, drop, set, length-set, take-append-drop}
-use lib.Seq.{drop-set-lt, length-take-le}
+use lib.ListN.{length, take, drop, set, length-set, drop_of_length-le}
+use lib.Seq.{drop-drop, drop-set-lt, length-take-le}
 use Rattle.spacing.specs.Spacing.{max_log2_words}
 use Rattle.spacing.proofs.Facts.{few_words}
 use Rattle.inventory.specs.Index.{packed, stream, own_cells}
@@ -14,7 +14,7 @@ use Rattle.inventory.specs.Shape.{near_by, Shaped}
 use Rattle.inventory.specs.declared.entry.Entry.{Entry}
 use Rattle.inventory.specs.declared.shape.Shape.{Shape}
 use Rattle.inventory.proofs.Lanes.{tab_more}
-use Rattle.build_inventory.proofs.Parts.{part_back, heads_front}
+use Rattle.build_inventory.proofs.Parts.{heads_front}
 
 -- n cells have at most 4n lanes
 pub few_all : (n w : ℕ) → w ≤ 4 → n * w ≤ 4 * n
@@ -35,12 +35,14 @@ module _ (pos : ℕ → ℕ) (x : Entry) (i : ℕ) where
   unfolding stream
   stream_more l₀ l n k v el h ek ev = rw el (tab_more (λ j. packed pos x (i + j * x.shape.lanes)) l₀ n v h (ev ∙ ap (packed pos x) ek))
 
+  pub stream_all : (l₀ l : List ℕ) (n : ℕ) → l ≡ stream pos x i n ++ drop n l₀ → n ≡ length l₀ → l ≡ stream pos x i (length l₀)
+  stream_all l₀ l n e en = e ∙ rw (en, drop_of_length-le l₀ {i = length l₀} (omega arith)) (append-nil (stream pos x i (length l₀)))
+
 -- the first two cells are stored, and the part behind the heads comes back with the stream
 pub own_made : (pos : ℕ → ℕ) (x : Entry) (own before : ℕ) → x.shape.heads ≤ 1 → 0 < own
     → (l₀ l ys : List ℕ) (at n k : ℕ) → l ≡ set (set l₀ 0 (x.start + x.shape.tag)) 1 before → own + 1 ≤ length l₀
-    → at ≡ 1 + x.shape.heads → n ≡ own - x.shape.heads → k ≡ x.shape.from
-    → ys ≡ stream pos x k n ++ drop n (take (length l - at) (drop at l))
-    → take at l ++ (ys ++ drop (length l - at) (drop at l)) ≡ own_cells pos x before own ++ drop (own + 1) l₀
+    → at ≡ 1 + x.shape.heads → n ≡ own - x.shape.heads → k ≡ x.shape.from → ys ≡ stream pos x k n
+    → take at l ++ (ys ++ drop n (drop at l)) ≡ own_cells pos x before own ++ drop (own + 1) l₀
 unfolding own_cells
 own_made pos x own before hh ho l₀ l ys at n k el hl ea en ek ey =
     let first = x.start + x.shape.tag in
@@ -51,4 +53,5 @@ own_made pos x own before hh ho l₀ l ys at n k el hl ea en ek ey =
     let q : at + n ≡ own + 1 = omega arith in
     let d : drop (at + n) l ≡ drop (own + 1) l₀ =
     rw (q, el) (drop-set-lt (own + 1) (set l₀ 0 first) 1 before (omega arith) ∙ drop-set-lt (own + 1) l₀ 0 first (omega arith)) in
-    part_back (take at l) l l ys (stream pos x k n) at n (sym (take-append-drop at l)) t (omega arith) ey ∙ rw (d, f, en, ek)
+    rw (drop-drop n at l, d, f, ey, ek, en)
+    (sym (append_assoc (take (1 + x.shape.heads) (first ∷ before ∷ [])) (stream pos x x.shape.from (own - x.shape.heads)) (drop (own + 1) l₀)))

@@ -1,8 +1,10 @@
 -- The comparison of summaries is exact.
-use mathlib.Core.Bool.{true, and-eq-true_iff, false≢true}
-use mathlib.Core.Path.{◌≡◌, refl}
+use denote.Enum.Bare.{sameb}
+use mathlib.Core.Bool.{Bool, true, not, ◌&&◌, not-not, and_assoc, and-eq-true_iff, false≢true}
+use mathlib.Core.Path.{◌≡◌, refl, sym, ap, ◌∙◌}
 use lib.Dec.{eqb}
 use borrow.Author.Tests.{eq-eqb, eqb-true}
+use Rattle.bit_record.specs.contracts.Polarity.{the_type}
 use Rattle.bit_record.specs.declared.Polarity.{Polarity}
 use Rattle.bit_record.specs.declared.Polarity.TheVariants.{Ones, Zeros}
 use Rattle.spacing.specs.Spacing.{N, L, M, S}
@@ -20,6 +22,13 @@ polarity_same : (a : Polarity) → same_polarity a a ≡ true
 polarity_same Ones = refl
 polarity_same Zeros = refl
 
+-- the derived `==` compares discriminants
+by_tag : (a b : Polarity) → sameb the_type a b ≡ same_polarity a b
+by_tag Ones Ones = refl
+by_tag Ones Zeros = refl
+by_tag Zeros Ones = refl
+by_tag Zeros Zeros = refl
+
 plan_is : (p q : Parameters) → same_plan p q ≡ true → p ≡ q
 unfolding same_plan
 plan_is p q e =
@@ -36,6 +45,22 @@ plan_is p q e =
       log2_words_per_subinventory = eqb-true (M p) (M q) m.1 i;
       log2_ones_per_sub16 = eqb-true (S p) (S q) s.1 i;
     }
+
+-- what the derived `==` of two summaries says, field by field, is `same_summary`
+abbrev derived : Summary → Summary → Bool
+derived t u =
+    let p = t.plan in
+    let q = u.plan in
+    (sameb the_type p.polarity q.polarity && (eqb p.len q.len && (eqb (N p) (N q) && (eqb (L p) (L q) && (eqb (M p) (M q) && eqb (S p) (S q))))))
+    && (eqb t.origin u.origin && (eqb t.inventory_len u.inventory_len && eqb t.spill_len u.spill_len))
+
+derived_same : (t u : Summary) → derived t u ≡ same_summary t u
+unfolding same_summary same_plan
+derived_same t u = rw (by_tag t.plan.polarity u.plan.polarity) (simp and_assoc refl)
+
+-- so `!=` tells it
+pub told_apart : (t u : Summary) (n v : Bool) → n ≡ not (derived t u) → n ≡ v → same_summary t u ≡ not v
+told_apart t u n v e f = sym (derived_same t u) ∙ sym (not-not (derived t u)) ∙ ap not (sym e ∙ f)
 
 pub summary_is : (t u : Summary) → same_summary t u ≡ true → t ≡ u
 unfolding same_summary

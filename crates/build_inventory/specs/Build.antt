@@ -1,7 +1,8 @@
 -- What size, build and check answer, and what the lent cells hold after a build. Document 01, "The build" and "When a call
 -- is turned down". The words come in by what they select, and by whether they suffice.
-use Rattle.std.specs.Prelude.{Bool, true, false, ◌&&◌, List, ◌++◌, ◌≡◌, ℕ, ◌-◌, ◌^◌, eqb, ltb, length, drop}
-use Rattle.rank_sel.specs.Outcome.{Outcome, answer, refused, number_of, refuse_if, refuse_by, and_then}
+use Rattle.std.specs.Prelude.{Bool, true, false, ◌&&◌, List, ◌++◌, ◌≡◌, ℕ, ◌-◌, ◌^◌, eqb, ltb, length, drop, Result}
+use Rattle.rank_sel.specs.Outcome.{Outcome, answer, refused, outcome, refuse_if, refuse_by, and_then}
+use Rattle.rank_sel.specs.declared.Refusal.{Refusal}
 use Rattle.bit_record.specs.Record.{of_record_from}
 use Rattle.bit_record.specs.declared.Polarity.{Polarity}
 use Rattle.bit_record.specs.declared.Polarity.TheVariants.{Ones, Zeros}
@@ -12,30 +13,7 @@ use Rattle.inventory.specs.Index.{inventory_len_of, inventory_of, spill_of, summ
 use Rattle.inventory.specs.declared.summary.Summary.{Summary}
 use Rattle.build_inventory.specs.Compare.{same_index}
 use Rattle.build_inventory.specs.Positions.{pos_in, spill_len_of}
-use Rattle.build_inventory.specs.declared.Built.{Built}
-use Rattle.build_inventory.specs.declared.Built.TheVariants as BuiltVariants
-use Rattle.build_inventory.specs.declared.Checked.{Checked}
-use Rattle.build_inventory.specs.declared.Checked.TheVariants as CheckedVariants
-use Rattle.build_inventory.specs.declared.Sized.{Sized}
-use Rattle.build_inventory.specs.declared.Sized.TheVariants as SizedVariants
-
--- ---- the answers
-pub record Sizes : Type 0 where
-  pub inventory : ℕ
-  pub spill : ℕ
-
-abbrev pub sized : Sized → Outcome Sizes
-sized (SizedVariants.Cells n k) = answer (record { inventory = n; spill = k })
-sized (SizedVariants.Refused r) = refused (number_of r)
-
-abbrev pub built : Built → Outcome Summary
-built (BuiltVariants.Summary t) = answer t
-built (BuiltVariants.Refused r) = refused (number_of r)
-
-abbrev pub checked : Checked → Outcome Bool
-checked CheckedVariants.Yes = answer true
-checked CheckedVariants.No = answer false
-checked (CheckedVariants.Refused r) = refused (number_of r)
+use Rattle.build_inventory.specs.declared.Sizes.{Sizes}
 
 -- ---- the sizes of a plan's index: 6 where the inventory has more cells than so many
 unfoldable pub fitted : List ℕ → Parameters → ℕ → Outcome Sizes
@@ -65,8 +43,8 @@ spill_after ws sp (answer t) = spill_of (pos_in ws t.plan) t.plan ++ drop t.spil
 spill_after ws sp (refused n) = sp
 
 -- a build whose outcome is o left these cells and answered r
-pub record BuiltAs (ws : List ℕ) (o : Outcome Summary) (inv₀ inv sp₀ sp : List ℕ) (r : Built) : Type 0 where
-  pub answers : built r ≡ o
+pub record BuiltAs (ws : List ℕ) (o : Outcome Summary) (inv₀ inv sp₀ sp : List ℕ) (r : Result Summary Refusal) : Type 0 where
+  pub answers : outcome r ≡ o
   pub inventory : inv ≡ inventory_after ws inv₀ o
   pub spill : sp ≡ spill_after ws sp₀ o
 

@@ -1,23 +1,22 @@
 -- What the functions that compare cells with an entry's, and with the whole index, say of them.
-use Rattle.std.specs.Prelude.{Bool, true, ◌&&◌, List, ◌≡◌, ℕ, ◌+◌, ◌-◌, ◌*◌, take}
+use Rattle.std.specs.Prelude.{Bool, ◌&&◌, List, ◌≡◌, ℕ, ◌+◌, ◌-◌, ◌*◌, length, take, Option, IfSome, is_some}
 use Rattle.rank_sel.specs.Lists.{same_list}
 use Rattle.spacing.specs.declared.Parameters.{Parameters}
 use Rattle.inventory.specs.Index.{stream, own_cells, entries_of, inventory_len_of, spill_start, inventory_of, spill_of}
 use Rattle.inventory.specs.declared.entry.Entry.{Entry}
 use Rattle.build_inventory.specs.Stream.{AtMark}
 use Rattle.build_inventory.specs.declared.entry.Cursor.{Cursor}
-use Rattle.build_inventory.specs.declared.index.Same.{Same}
 
--- the first n cells, with the stream from cursor c on; where they agree, the cursor stands behind them
-pub record Compared (pos : ℕ → ℕ) (x : Entry) (c : Cursor) (n : ℕ) (l : List ℕ) (r : Same) : Type 0 where
-  pub same : r.same ≡ same_list (take n l) (stream pos x c.k n)
-  pub number : r.same ≡ true → r.cursor.k ≡ c.k + n * x.shape.lanes
-  pub stands : r.same ≡ true → AtMark pos x r.cursor.at r.cursor.k
+-- the cells, with the stream from cursor c on; where they agree, the cursor stands behind them
+pub record Compared (pos : ℕ → ℕ) (x : Entry) (c : Cursor) (l : List ℕ) (r : Option Cursor) : Type 0 where
+  pub same : is_some r ≡ same_list l (stream pos x c.k (length l))
+  pub number : IfSome r (λ d. d.k ≡ c.k + length l * x.shape.lanes)
+  pub stands : IfSome r (λ d. AtMark pos x d.at d.k)
 
-pub record ComparedOwn (pos : ℕ → ℕ) (x : Entry) (own before : ℕ) (l : List ℕ) (r : Same) : Type 0 where
-  pub same : r.same ≡ same_list (take (own + 1) l) (own_cells pos x before own)
-  pub number : r.same ≡ true → r.cursor.k ≡ x.shape.from + (own - x.shape.heads) * x.shape.lanes
-  pub stands : r.same ≡ true → AtMark pos x r.cursor.at r.cursor.k
+pub record ComparedOwn (pos : ℕ → ℕ) (x : Entry) (own before : ℕ) (l : List ℕ) (r : Option Cursor) : Type 0 where
+  pub same : is_some r ≡ same_list (take (own + 1) l) (own_cells pos x before own)
+  pub number : IfSome r (λ d. d.k ≡ x.shape.from + (own - x.shape.heads) * x.shape.lanes)
+  pub stands : IfSome r (λ d. AtMark pos x d.at d.k)
 
 -- the cells within the counts are the index; what stands past them is passed over
 unfoldable pub same_index : (ℕ → ℕ) → Parameters → List ℕ → List ℕ → Bool

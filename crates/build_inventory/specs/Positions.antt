@@ -1,12 +1,10 @@
 -- The index of a record: the words come in by what they select alone.
-use Rattle.std.specs.Prelude.{List, ◌≡◌, ℕ, ◌-◌, ◌*◌, ◌^◌, ◌≤◌, ◌<◌, max, length}
+use Rattle.std.specs.Prelude.{List, ℕ, ◌-◌, max}
 use Rattle.std.proofs.Math.Option.{Option, get_or}
 use Rattle.rank_sel.specs.Seek.{seek}
 use Rattle.bit_record.specs.Record.{selected, bit_of}
-use Rattle.spacing.specs.Spacing.{N, L, PlanOf}
 use Rattle.spacing.specs.declared.Parameters.{Parameters}
-use Rattle.inventory.specs.Index.{entries_of, inventory_len_of, entry_of, spill_start}
-use Rattle.inventory.specs.declared.entry.Entry.{Entry}
+use Rattle.inventory.specs.Index.{entries_of, spill_start}
 
 -- the bit of rank r in the record that the plan is of
 abbrev pub pos_in : List ℕ → Parameters → ℕ → ℕ
@@ -23,15 +21,3 @@ seek_or_end ws p from k = or_end p (seek (selected p.polarity ws p.len) (p.len -
 -- how many cells the index spills
 abbrev pub spill_len_of : List ℕ → Parameters → ℕ
 spill_len_of ws p = spill_start (pos_in ws p) p (entries_of p)
-
--- cells that a record's index has room in
-pub record Lent (ws : List ℕ) (p : Parameters) (inv sp : List ℕ) : Type 0 where
-  pub plans : PlanOf ws p
-  pub cells : inventory_len_of p ≤ length inv
-  pub spills : spill_len_of ws p ≤ length sp
-
--- x is an entry of the record's index
-pub record EntryIn (ws : List ℕ) (p : Parameters) (x : Entry) : Type 0 where
-  pub number : ℕ
-  pub within : number * 2 ^ L p < N p
-  pub is : x ≡ entry_of (pos_in ws p) p number

@@ -1,5 +1,5 @@
 -- What the functions that go through an entry's cells say of them.
-use Rattle.std.specs.Prelude.{List, ◌++◌, ◌≡◌, ℕ, ◌+◌, ◌-◌, ◌*◌, ◌<◌, drop}
+use Rattle.std.specs.Prelude.{List, ◌++◌, ◌≡◌, ℕ, ◌+◌, ◌-◌, ◌*◌, ◌<◌, length, drop}
 use Rattle.spacing.specs.declared.Parameters.{Parameters}
 use Rattle.inventory.specs.Index.{mark, stream, own_cells, spill_cells, entries_of, inventory_len_of, spill_start, inventory_of, spill_of}
 use Rattle.inventory.specs.declared.entry.Entry.{Entry}
@@ -16,10 +16,10 @@ pub record Stepped (pos : ℕ → ℕ) (x : Entry) (c : Cursor) (v n : ℕ) (r :
   pub number : r.cursor.k ≡ c.k + n
   pub stands : AtMark pos x r.cursor.at r.cursor.k
 
--- n cells of the stream from cursor c on stand in front of what was there
-pub record Wrote (pos : ℕ → ℕ) (x : Entry) (c : Cursor) (n : ℕ) (l₀ l : List ℕ) (r : Cursor) : Type 0 where
-  pub cells : l ≡ stream pos x c.k n ++ drop n l₀
-  pub number : r.k ≡ c.k + n * x.shape.lanes
+-- the stream from cursor c on stands in the cells
+pub record Wrote (pos : ℕ → ℕ) (x : Entry) (c : Cursor) (l₀ l : List ℕ) (r : Cursor) : Type 0 where
+  pub cells : l ≡ stream pos x c.k (length l₀)
+  pub number : r.k ≡ c.k + length l₀ * x.shape.lanes
   pub stands : AtMark pos x r.at r.k
 
 -- the entry's own cells stand in front, and the cursor at its first lane to spill

@@ -18,7 +18,8 @@ use Rattle.spacing.specs.declared.Parameters.{Parameters}
 use Rattle.spacing.proofs.Facts.{plan_facts}
 use Rattle.inventory.specs.Index.{entries_of, inventory_len_of, spill_start, inventory_of, spill_of, summary_of}
 use Rattle.inventory.specs.declared.summary.Summary.{Summary}
-use Rattle.build_inventory.specs.Build.{Sizes, fitted, size_of, build_from, build_of, inventory_after, spill_after, same_summary, check_of}
+use Rattle.build_inventory.specs.Build.{fitted, size_of, build_from, build_of, inventory_after, spill_after, same_summary, check_of}
+use Rattle.build_inventory.specs.declared.Sizes.{Sizes}
 use Rattle.build_inventory.specs.Compare.{same_index}
 use Rattle.build_inventory.specs.Positions.{pos_in}
 use Rattle.build_inventory.proofs.Outcomes.{admission}

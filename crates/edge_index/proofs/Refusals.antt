@@ -22,7 +22,8 @@ use Rattle.spacing.specs.declared.Parameters.{Parameters}
 use Rattle.inventory.specs.Index.{inventory_len_of, summary_of}
 use Rattle.inventory.specs.Lanes.{lane_of}
 use Rattle.inventory.specs.declared.summary.Summary.{Summary}
-use Rattle.build_inventory.specs.Build.{Sizes, fitted, size_of, build_from, build_of, check_of}
+use Rattle.build_inventory.specs.Build.{fitted, size_of, build_from, build_of, check_of}
+use Rattle.build_inventory.specs.declared.Sizes.{Sizes}
 use Rattle.build_inventory.specs.Positions.{spill_len_of}
 use Rattle.read_inventory.specs.Jump.{sample_of, select_of, hint_sample, hint_of, dwell_at, dwell_of, store_of, subinventory_of, cells_of}
 use Rattle.read_inventory.specs.Read.{kind_at, span_at, shape_at, Place, start, own, over, place_at, number_at, span_too_small, mark_at, entry_of_rank, mark_number, mark_of_rank, Hint, hint_at, position_of}

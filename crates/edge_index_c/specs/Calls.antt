@@ -5,7 +5,8 @@ use Rattle.bit_record.specs.Record.{count_of}
 use Rattle.spacing.specs.Spacing.{plan_of}
 use Rattle.inventory.specs.Numbers.{polarity_at, summary_at, numbers_of}
 use Rattle.inventory.specs.declared.summary.Summary.{Summary}
-use Rattle.build_inventory.specs.Build.{Sizes, size_of, build_of, check_of, inventory_after, spill_after}
+use Rattle.build_inventory.specs.Build.{size_of, build_of, check_of, inventory_after, spill_after}
+use Rattle.build_inventory.specs.declared.Sizes.{Sizes}
 use Rattle.read_inventory.specs.Read.{Hint}
 use Rattle.read_inventory.specs.Jump.{Part, of_inventory, of_spill, empty, select_of, hint_of, dwell_of, store_of}
 use Rattle.select_list.specs.List.{Listed, list_of, total_of, places_after}

@@ -3,25 +3,23 @@
 #![tactic(auto)]
 
 ghost use Rattle.std.specs.Prelude.{◌≡◌, length};
-ghost use Rattle.rank_sel.specs.Outcome.{answered, number_of};
+ghost use Rattle.rank_sel.specs.Outcome.{number_of, outcome};
 ghost use Rattle.select_in_word.specs.Select.{select_in_word};
-ghost use Rattle.build_inventory.specs.Build.{checked};
 ghost use Rattle.edge_index_c.specs.Calls.{BuiltC, ListedC, ReadC, Returned, WroteC, build_c, cells_as, check_c, count_c, dwell_c, hint_as, hint_c, list_c, plan_c, select_c, size_c, sizes_as, subinventory_c, verdict_of, write_c};
-ghost use Rattle.edge_index_c.specs.Codes.{choice_at, known};
+ghost use Rattle.inventory.specs.Numbers.{numbers_of as numbers_in};
+ghost use Rattle.edge_index_c.specs.Codes.{choice_at, known, uncounted};
 
-use edge_index::{
-    Answer, Built, CellPart, Checked, Choice, Hinted, InWord, Opened, Parameters, Planned,
-    Polarity, Refusal, Sized, Summary,
-};
+use edge_index::{CellPart, Choice, Parameters, Refusal, Summary};
 use inventory::{SUMMARY_NUMBERS, cut, numbers_of, polarity_at, summary_at};
 
+// C's statuses, polarities and kinds are numbers: here they are made of refusals, polarities and choices, and read as such.
 // A polarity or a kind that is none. No refusal has this number.
 const BAD_CODE: u32 = 255;
 
 fn status(refusal: Refusal) -> u32
     ensures { result ≡ number_of refusal }
 {
-    edge_index::refusal_number(refusal) as u32
+    refusal.number() as u32
 }
 
 pub fn is_known(polarity: u32, kind: u32) -> bool
@@ -30,35 +28,49 @@ pub fn is_known(polarity: u32, kind: u32) -> bool
     polarity <= 1 && kind <= 4
 }
 
+#[tactic(auto, unfolding(crate::specs::Codes::choice_at))]
 pub fn choice_at(kind: u32, value: u64, percentage: f64, log2: u32) -> Choice
     ensures { result ≡ choice_at kind value percentage log2 }
 {
-    if kind == 0 {
-        return Choice::Default;
+    match kind {
+        0 => Choice::Default,
+        1 => Choice::Span(value, log2),
+        2 => Choice::Power(cut(value), log2),
+        3 => Choice::Overhead(percentage, log2),
+        _ => Choice::Fixed(cut(value), log2),
     }
-    if kind == 1 {
-        return Choice::Span(value, log2);
-    }
-    if kind == 2 {
-        return Choice::Power(cut(value), log2);
-    }
-    if kind == 3 {
-        return Choice::Overhead(percentage, log2);
-    }
-    Choice::Fixed(cut(value), log2)
 }
 
-// Every answer of one number goes out here.
-fn give(told: Answer, out: &mut u64) -> u32
-    ensures { Returned (answered told) result out.old out.new }
+// An answer goes out behind a reference, and a refusal as its number.
+fn give<T: Drop>(told: Result<T, Refusal>, out: &mut T) -> u32
+    ensures { Returned (outcome told) result out.old out.new }
 {
     match told {
-        Answer::Value(n) => {
-            *out = n;
+        Ok(value) => {
+            *out = value;
             0
         }
-        Answer::Refused(refusal) => status(refusal),
+        Err(refusal) => status(refusal),
     }
+}
+
+// A summary goes out as its nine numbers. Passed by name, a function has to be this crate's own.
+fn numbers(summary: Summary) -> [u64; SUMMARY_NUMBERS]
+    ensures { result ≡ numbers_in summary }
+{
+    numbers_of(summary)
+}
+
+// A plan goes out as a summary from 0 on whose cells are not counted.
+fn uncounted(plan: Parameters) -> [u64; SUMMARY_NUMBERS]
+    ensures { result ≡ numbers_in (uncounted plan) }
+{
+    numbers_of(Summary {
+        plan,
+        origin: 0,
+        inventory_len: 0,
+        spill_len: 0,
+    })
 }
 
 pub fn edge_index_count(words: &[u64], len: u64, polarity: u32, num: &mut u64) -> u32
@@ -89,18 +101,8 @@ pub fn edge_index_plan(
         return BAD_CODE;
     }
     let choice = choice_at(kind, value, percentage, log2);
-    match edge_index::plan(words, len, polarity_at(polarity as u64), choice) {
-        Planned::Plan(plan) => {
-            *summary = numbers_of(Summary {
-                plan,
-                origin: 0,
-                inventory_len: 0,
-                spill_len: 0,
-            });
-            0
-        }
-        Planned::Refused(refusal) => status(refusal),
-    }
+    let told = edge_index::plan(words, len, polarity_at(polarity as u64), choice);
+    give(told.map(uncounted), summary)
 }
 
 pub fn edge_index_size(
@@ -121,12 +123,12 @@ pub fn edge_index_size(
     }
     let choice = choice_at(kind, value, percentage, log2);
     match edge_index::size(words, len, polarity_at(polarity as u64), choice) {
-        Sized::Cells(inventory, spill) => {
-            *inventory_len = inventory;
-            *spill_len = spill;
+        Ok(sizes) => {
+            *inventory_len = sizes.inventory;
+            *spill_len = sizes.spill;
             0
         }
-        Sized::Refused(refusal) => status(refusal),
+        Err(refusal) => status(refusal),
     }
 }
 
@@ -149,7 +151,7 @@ pub fn edge_index_build(
         return BAD_CODE;
     }
     let choice = choice_at(kind, value, percentage, log2);
-    match edge_index::build(
+    let told = edge_index::build(
         words,
         len,
         origin,
@@ -157,24 +159,15 @@ pub fn edge_index_build(
         choice,
         inventory,
         spill,
-    ) {
-        Built::Summary(built) => {
-            *summary = numbers_of(built);
-            0
-        }
-        Built::Refused(refusal) => status(refusal),
-    }
+    );
+    give(told.map(numbers), summary)
 }
 
 // A yes is 1, a no 0.
-fn verdict(told: Checked) -> Answer
-    ensures { answered result ≡ verdict_of (checked told) }
+fn verdict(told: Result<bool, Refusal>) -> Result<u64, Refusal>
+    ensures { outcome result ≡ verdict_of (outcome told) }
 {
-    match told {
-        Checked::Yes => Answer::Value(1),
-        Checked::No => Answer::Value(0),
-        Checked::Refused(refusal) => Answer::Refused(refusal),
-    }
+    Ok(told? as u64)
 }
 
 pub fn edge_index_check(
@@ -247,12 +240,12 @@ pub fn edge_index_hint(
         return BAD_CODE;
     }
     match edge_index::hint(words, summary_at(summary), inventory, spill, rank) {
-        Hinted::Mark(at, its_rank) => {
-            *mark = at;
-            *mark_rank = its_rank;
+        Ok(hint) => {
+            *mark = hint.mark;
+            *mark_rank = hint.rank;
             0
         }
-        Hinted::Refused(refusal) => status(refusal),
+        Err(refusal) => status(refusal),
     }
 }
 
@@ -272,19 +265,19 @@ pub fn edge_index_subinventory(
         return BAD_CODE;
     }
     match edge_index::subinventory_part(words, summary_at(summary), inventory, spill, rank) {
-        CellPart::Inventory(own, n) => {
+        Ok(CellPart::Inventory(own, n)) => {
             *slice = 1;
             *first = own;
             *cells = n;
             0
         }
-        CellPart::Spill(from, spilled) => {
+        Ok(CellPart::Spill(from, spilled)) => {
             *slice = 2;
             *first = from;
             *cells = spilled;
             0
         }
-        CellPart::Refused(refusal) => status(refusal),
+        Err(refusal) => status(refusal),
     }
 }
 
@@ -351,23 +344,12 @@ pub fn edge_index_read_image(
 ) -> u32
     ensures { ReadC bytes.now inventory.old inventory.new spill.old spill.new summary.old summary.new result }
 {
-    match edge_index::read_image(bytes, inventory, spill) {
-        Opened::Summary(opened) => {
-            *summary = numbers_of(opened);
-            0
-        }
-        Opened::Refused(refusal) => status(refusal),
-    }
+    let told = edge_index::read_image(bytes, inventory, spill);
+    give(told.map(numbers), summary)
 }
 
 pub fn edge_index_select_in_word(word: u64, rank: u64, position: &mut u64) -> u32
     ensures { Returned (select_in_word word rank) result position.old position.new }
 {
-    match edge_index::select_in_word(word, rank) {
-        InWord::At(p) => {
-            *position = p;
-            0
-        }
-        InWord::Refused(refusal) => status(refusal),
-    }
+    give(edge_index::select_in_word(word, rank), position)
 }

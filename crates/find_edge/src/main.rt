@@ -4,6 +4,7 @@
 // longer file fills. They fit a stack of 8 MB.
 #![tactic(auto)]
 
+use find_edge_lib::Buffers;
 use std::io;
 
 fn main(rt: HostRuntime) -> io::Result<()> {
@@ -11,13 +12,11 @@ fn main(rt: HostRuntime) -> io::Result<()> {
     let mut inventory = [0u64; 147457];
     let mut spill = [0u64; 32768];
     let mut image = [0u8; 1441889];
-    find_edge_lib::run(
-        &rt,
-        &mut words,
-        &mut inventory,
-        &mut spill,
-        &mut image,
-        &rt.stdout(),
-        &rt.stderr(),
-    )
+    let buffers = Buffers {
+        words: &mut words,
+        inventory: &mut inventory,
+        spill: &mut spill,
+        image: &mut image,
+    };
+    find_edge_lib::run(&rt, buffers, &rt.stdout(), &rt.stderr())
 }

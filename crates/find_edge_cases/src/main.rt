@@ -4,51 +4,29 @@
 
 use edge_index::REFUSALS;
 use find_edge_input::find;
-use find_edge_lib::{find_edge, read_full, refused};
+use find_edge_lib::{Buffers, find_edge, read_full, refused};
 use std::rt::Files;
 use std::{fs, io};
-
-fn zero_for_space(byte: u8) -> u8 {
-    if byte == b' ' { 0 } else { byte }
-}
 
 // The words of a line as arguments, which end in a zero byte.
 fn to_arguments(line: &mut [u8]) {
     for byte in line {
-        *byte = zero_for_space(*byte);
+        if *byte == b' ' {
+            *byte = 0;
+        }
     }
 }
 
 fn run_case<R: Files + Input + Print>(
     rt: &R,
     line: &mut [u8],
-    words: &mut [u64],
-    inventory: &mut [u64],
-    spill: &mut [u64],
-    image: &mut [u8],
+    buffers: Buffers<'_>,
 ) -> io::Result<()> {
     rt.write_all(b"$ find_edge ")?;
     rt.write_all(line)?;
     rt.write_all(b"\n")?;
     to_arguments(line);
-    find_edge(rt, line, words, inventory, spill, image, rt, rt)
-}
-
-fn run_cases<R: Files + Input + Print>(
-    rt: &R,
-    text: &mut [u8],
-    words: &mut [u64],
-    inventory: &mut [u64],
-    spill: &mut [u64],
-    image: &mut [u8],
-) -> io::Result<()> {
-    let mut from = 0;
-    while from < text.len() {
-        let to = from + find(&text[from..], b'\n');
-        run_case(rt, &mut text[from..to], words, inventory, spill, image)?;
-        from = to + 1;
-    }
-    Ok(())
+    find_edge(rt, line, buffers, rt, rt)
 }
 
 // Every row of the table of refusals.
@@ -66,13 +44,15 @@ fn main(rt: HostRuntime) -> io::Result<()> {
     let mut image = [0u8; 4096];
     let mut text = [0u8; 65536];
     let n = read_full(&mut fs::open(&rt, "cases")?, &mut text)?;
-    run_cases(
-        &rt,
-        &mut text[..n],
-        &mut words,
-        &mut inventory,
-        &mut spill,
-        &mut image,
-    )?;
+    for line in text[..n].split_inclusive_mut(|byte| *byte == b'\n') {
+        let end = find(line, b'\n');
+        let buffers = Buffers {
+            words: &mut words,
+            inventory: &mut inventory,
+            spill: &mut spill,
+            image: &mut image,
+        };
+        run_case(&rt, &mut line[..end], buffers)?;
+    }
     refusals(&rt)
 }

@@ -1,17 +1,12 @@
 -- Laws of the digits of a text, one digit on and at the end.
-use Rattle.std.proofs.Common.{◌≡◌, ℕ, ◌+◌, ◌-◌, ◌*◌, ◌<◌, ◌≤◌, Bool, true, false, ◌&&◌, List, [], ◌∷◌, length, get_or, take, drop, sym, ap, ◌∙◌, add-one, arith, length-drop, take_all, drop-cons}
+use Rattle.std.proofs.Common.{◌≡◌, ℕ, ◌+◌, ◌-◌, ◌*◌, ◌<◌, ◌≤◌, List, [], ◌∷◌, length, get_or, take, drop, sym, ap, ◌∙◌, add-one, arith, length-drop, take_all, drop-cons, le-leb, lt-ltb, le-ltb}
+use borrow.Author.Tests.{lt-leb}
 use lib.Seq.{drop-length}
-use Rattle.find_edge_input.specs.declared.number.Parsed.{Parsed}
+use Rattle.std.specs.Prelude.{Result, Ok, Err}
+use Rattle.find_edge_input.specs.declared.number.NumberError.{NumberError}
+use Rattle.find_edge_input.specs.declared.number.NumberError.TheVariants.{NotANumber}
 use Rattle.find_edge_input.specs.Scan.{index_of}
-use Rattle.find_edge_input.specs.Number.{digit, all_digits, value_from, parsed, decimal_of, whole_first}
-
-pub digits_step : (text : List ℕ) (i : ℕ) → i < length text → all_digits (drop i text) ≡ (digit (get_or text i 0) && all_digits (drop (i + 1) text))
-unfolding all_digits
-digits_step text i h = rw (add-one i, drop-cons text i 0 h)
-
-pub digits_end : (text : List ℕ) (i : ℕ) → i ≡ length text → all_digits (drop i text) ≡ true
-unfolding all_digits
-digits_end text i e = rw (e, drop-length text)
+use Rattle.find_edge_input.specs.Number.{value_from, parsed, as_part, ratio_of, joined, after_whole, decimal_of, whole_first}
 
 pub value_step : (n : ℕ) (text : List ℕ) (i : ℕ) → i < length text → value_from n (drop i text) ≡ value_from (n * 10 + (get_or text i 0 - 48)) (drop (i + 1) text)
 unfolding value_from
@@ -27,17 +22,6 @@ unfolding value_from
 value_grows n [] = omega arith
 value_grows n (b ∷ rest) = omega (arith, value_grows (n * 10 + (b - 48)) rest)
 
--- a turn of the loop over the digits: at a byte that is none, and past one that is
-module _ (text : List ℕ) (i : ℕ) (b : Bool) (h : i < length text) (e : b ≡ digit (get_or text i 0)) (v : all_digits text ≡ all_digits (drop i text)) where
-  abbrev here : Bool → Bool
-  here z = z && all_digits (drop (i + 1) text)
-
-  pub digits_stop : b ≡ false → false ≡ all_digits text
-  digits_stop f = sym (v ∙ digits_step text i h ∙ ap here (sym e ∙ f))
-
-  pub digits_go : b ≡ true → all_digits text ≡ all_digits (drop (i + 1) text)
-  digits_go t = v ∙ digits_step text i h ∙ ap here (sym e ∙ t)
-
 -- a turn of the loop over the value: one digit on, and where that no longer fits a bound
 module _ (n : ℕ) (text : List ℕ) (i d : ℕ) (h : i < length text) (e : d ≡ get_or text i 0 - 48) (v : value_from 0 text ≡ value_from n (drop i text)) where
   pub value_go : value_from 0 text ≡ value_from (n * 10 + d) (drop (i + 1) text)
@@ -47,10 +31,31 @@ module _ (n : ℕ) (text : List ℕ) (i d : ℕ) (h : i < length text) (e : d �
   value_over m o = omega (arith, value_go, value_grows (n * 10 + d) (drop (i + 1) text))
 
 -- a part to the end
-pub rest : (k : ℕ) (text : List ℕ) → take (length text - k) (drop k text) ≡ drop k text
+rest : (k : ℕ) (text : List ℕ) → take (length text - k) (drop k text) ≡ drop k text
 rest k text = take_all (length text - k) (drop k text) (simp length-drop (omega arith))
 
 -- a percentage by where its point stands and what stands before it
-pub decimal_is : (text : List ℕ) (p : ℕ) (whole : Parsed) → p ≡ index_of 46 text → whole ≡ parsed (take p text) → decimal_of text ≡ whole_first text p whole
+pub decimal_is : (text : List ℕ) (p : ℕ) (whole : Result ℕ NumberError) → p ≡ index_of 46 text → whole ≡ as_part (parsed (take p text)) → decimal_of text ≡ whole_first text p whole
 unfolding decimal_of
 decimal_is text p whole e f = rw (f, e)
+
+-- what comes after the whole part: no point, or a point and the decimals behind it, too many or not
+pub no_point : (text : List ℕ) (p whole : ℕ) → length text ≤ p → after_whole text p whole ≡ Ok (ratio_of whole 0 0)
+unfolding after_whole
+no_point text p whole h = simp (le-leb _ _ h)
+
+-- the decimals, all that stands behind the point
+abbrev pub decimals : List ℕ → ℕ → List ℕ
+decimals text p = take (length text - (p + 1)) (drop (p + 1) text)
+
+module _ (text : List ℕ) (p whole : ℕ) (h : p < length text) where
+  count : length (decimals text p) ≡ length text - (p + 1)
+  count = rw rest (simp length-drop)
+
+  pub too_fine : 3 < length (decimals text p) → after_whole text p whole ≡ Err NotANumber
+  unfolding after_whole
+  too_fine m = let k : 3 < length text - (p + 1) = omega (arith, count) in simp (lt-leb _ _ h, lt-ltb _ _ k)
+
+  pub with_decimals : length (decimals text p) ≤ 3 → after_whole text p whole ≡ joined whole (as_part (parsed (decimals text p))) (length (decimals text p))
+  unfolding after_whole
+  with_decimals m = let k : length text - (p + 1) ≤ 3 = omega (arith, count) in rw (count, rest) (simp (lt-leb _ _ h, le-ltb _ _ k))

@@ -1,3 +1,4 @@
 pub mod Digits
+pub mod Steps
 pub mod Bits
 pub mod Examples

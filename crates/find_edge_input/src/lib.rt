@@ -5,6 +5,6 @@ mod number;
 mod scan;
 mod words;
 
-pub use number::{Decimal, Parsed, parse_decimal, parse_number};
+pub use number::{NumberError, parse_decimal, parse_number};
 pub use scan::find;
 pub use words::pack;

@@ -7,10 +7,7 @@ pub fn find(text: &[u8], byte: u8) -> usize
     ensures value { result ≡ index_of byte text.now }
     ensures bound { result ≤ length text.now }
 {
-    for (i, b) in text.iter().enumerate() {
-        if *b == byte {
-            return i;
-        }
-    }
-    text.len()
+    text.iter()
+        .position(|other| *other == byte)
+        .unwrap_or(text.len())
 }

@@ -2,26 +2,23 @@
 // capture, and the rest are edge numbers.
 ghost use Rattle.std.specs.Prelude.{◌≤◌, length, IfOk};
 ghost use Rattle.std.specs.Counts.{IsPrefixLen};
-ghost use Rattle.find_edge_lib.specs.Arguments.{Within};
 
-use crate::report;
-use edge_index::Choice;
-use find_edge_input::{Decimal, Parsed, find, parse_decimal, parse_number};
-use rank_sel::min;
+use crate::capture::{CaptureError, read_capture};
+use crate::edges::Edges;
+use crate::report::{Fault, Stop, TextError};
+use crate::saved::open_file;
+use edge_index::{Choice, Polarity};
+use find_edge_input::{NumberError, parse_decimal, parse_number};
 use std::env::{Env, FillError};
-use std::io::ErrorKind;
+use std::io::{ErrorKind, Read};
 use std::rt::Files;
-use std::{fs, io, str};
-
-pub const MOST_EDGES: usize = 1024;
 
 // The maximum of M, where the user gives a spacing: that of the default.
 const MAX_LOG2_WORDS: u32 = 3;
 
-// What an argument is.
+// An option whose value is the next argument.
 #[derive(Clone, Copy)]
-pub enum Word {
-    Zeros,
+enum Valued {
     Samples,
     Origin,
     Span,
@@ -29,41 +26,26 @@ pub enum Word {
     Overhead,
     Save,
     Index,
-    Help,
-    Unknown,
-    Plain,
 }
 
-// What the arguments so far ask for. `awaits` is the option whose value comes next, or Plain. With no `file` the capture is
-// standard input. `save` says from where to where in the arguments the file to save to is named, which is opened
-// when there is something to save.
 #[derive(Drop)]
-pub struct Request<F> {
-    pub is_zeros: bool,
+enum Source<F> {
+    StandardInput,
+    File(F),
+}
+
+// What the arguments ask for. With no source named the capture is standard input. The file to save to is opened when there is
+// something to save.
+#[derive(Drop)]
+pub struct Request<'a, F> {
+    pub polarity: Polarity,
     pub samples: Option<u64>,
     pub origin: u64,
     pub choice: Choice,
-    pub awaits: Word,
-    pub has_file: bool,
-    pub file: Option<F>,
-    pub edges: usize,
-    pub save: Option<(usize, usize)>,
+    source: Option<Source<F>>,
+    pub edges: Edges,
+    pub save: Option<&'a [u8]>,
     pub index: Option<F>,
-}
-
-// The request, the usage, or a stop: the error line is written.
-#[derive(Drop)]
-pub enum Asked<F> {
-    Request(Request<F>),
-    Help,
-    Stop,
-}
-
-// The arguments in a buffer, so many bytes of it; Full where it does not hold them.
-#[derive(Clone, Copy)]
-pub enum Gathered {
-    Bytes(usize),
-    Full,
 }
 
 // Puts argument i at `at`, and a zero byte behind it.
@@ -80,9 +62,10 @@ fn put_argument(rt: &impl Env, i: usize, args: &mut [u8], at: usize) -> Result<u
     Ok(end + 1)
 }
 
-// The arguments that the program was started with, without its own name.
-pub fn gather(rt: &impl Env, args: &mut [u8]) -> Gathered
-    ensures { Within result args.new }
+// Puts the arguments that the program was started with, without its own name, at the start of a buffer, and answers how many
+// bytes they take.
+pub fn gather(rt: &impl Env, args: &mut [u8]) -> Result<usize, Fault>
+    ensures { IfOk result (λ n. IsPrefixLen n args.new) }
 {
     let mut at = 0;
     for i in 1..usize::MAX {
@@ -91,310 +74,162 @@ pub fn gather(rt: &impl Env, args: &mut [u8]) -> Gathered
                 at = next;
             }
             Err(FillError::TooLong) => {
-                return Gathered::Full;
+                return Err(Fault::TooManyArguments);
             }
             Err(FillError::NotPresent) => break,
         }
     }
-    Gathered::Bytes(at)
+    Ok(at)
 }
 
-// Any other text that begins with two dashes is taken for a misspelt option.
-fn word_of(text: &[u8]) -> Word {
-    match text {
-        b"--zeros" => Word::Zeros,
-        b"--samples" => Word::Samples,
-        b"--origin" => Word::Origin,
-        b"--span" => Word::Span,
-        b"--power" => Word::Power,
-        b"--overhead" => Word::Overhead,
-        b"--save" => Word::Save,
-        b"--index" => Word::Index,
-        b"--help" => Word::Help,
-        [b'-', b'-', ..] => Word::Unknown,
-        _ => Word::Plain,
+// A text that is not read as what is wanted: it is none, or it is over the most.
+fn misread(text: &[u8], error: NumberError, none: TextError, most: u64) -> Stop<'_> {
+    match error {
+        NumberError::NotANumber => Stop::Text(text, none),
+        NumberError::TooLarge => Stop::Text(text, TextError::TooLarge(most)),
     }
 }
 
-fn with_choice<F: Drop>(mut request: Request<F>, choice: Choice, awaits: Word) -> Request<F> {
-    request.choice = choice;
-    awaiting(request, awaits)
+fn number(text: &[u8]) -> Result<u64, Stop<'_>> {
+    parse_number(text).map_err(|error| misread(text, error, TextError::NotANumber, u64::MAX))
 }
 
-fn awaiting<F: Drop>(mut request: Request<F>, awaits: Word) -> Request<F> {
-    request.awaits = awaits;
-    request
+fn percentage(text: &[u8]) -> Result<f64, Stop<'_>> {
+    parse_decimal(text).map_err(|error| misread(
+        text,
+        error,
+        TextError::NotAPercentage,
+        999_999_999,
+    ))
 }
 
-fn with_samples<F: Drop>(mut request: Request<F>, samples: u64) -> Request<F> {
-    request.samples = Some(samples);
-    awaiting(request, Word::Plain)
-}
-
-fn with_origin<F: Drop>(mut request: Request<F>, origin: u64) -> Request<F> {
-    request.origin = origin;
-    awaiting(request, Word::Plain)
-}
-
-// The value of an option that takes a whole number. Every power above 63 is refused alike, so 64 stands for them.
-fn with_number<F: Drop>(request: Request<F>, awaits: Word, n: u64) -> Request<F> {
-    match awaits {
-        Word::Samples => with_samples(request, n),
-        Word::Origin => with_origin(request, n),
-        Word::Span => with_choice(request, Choice::Span(n, MAX_LOG2_WORDS), Word::Plain),
-        Word::Power => with_choice(
-            request,
-            Choice::Power(min(n, 64) as u32, MAX_LOG2_WORDS),
-            Word::Plain,
-        ),
-        _ => request,
+fn open_source<'a, R: Files>(rt: &R, name: &'a [u8]) -> Result<Source<R::File>, Stop<'a>> {
+    if name == b"-".as_slice() {
+        return Ok(Source::StandardInput);
     }
-}
-
-fn take_number<F: Drop>(
-    request: Request<F>,
-    awaits: Word,
-    text: &[u8],
-    err: &impl Print,
-) -> io::Result<Asked<F>> {
-    match parse_number(text) {
-        Parsed::Number(n) => Ok(Asked::Request(with_number(request, awaits, n))),
-        Parsed::NotANumber => {
-            report::not_a_number(err, text)?;
-            Ok(Asked::Stop)
+    match open_file(rt, name) {
+        Ok(file) => Ok(Source::File(file)),
+        Err(error) if error.kind() == ErrorKind::NotFound => {
+            Err(Stop::Text(name, TextError::Missing))
         }
-        Parsed::TooLarge => {
-            report::too_large(err, text, u64::MAX)?;
-            Ok(Asked::Stop)
+        Err(_) => Err(Stop::Text(name, TextError::NotOpened)),
+    }
+}
+
+fn open_index<'a, R: Files>(rt: &R, name: &'a [u8]) -> Result<R::File, Stop<'a>> {
+    open_file(rt, name).map_err(|_| Stop::Text(name, TextError::IndexNotOpened))
+}
+
+impl<'a, F: Drop> Request<'a, F> {
+    // Standard input, every sample, the first of them number 0, the default spacing.
+    fn new() -> Request<'a, F> {
+        Request {
+            polarity: Polarity::Ones,
+            samples: None,
+            origin: 0,
+            choice: Choice::Default,
+            source: None,
+            edges: Edges::new(),
+            save: None,
+            index: None,
         }
     }
-}
 
-fn take_percentage<F: Drop>(
-    request: Request<F>,
-    text: &[u8],
-    err: &impl Print,
-) -> io::Result<Asked<F>> {
-    match parse_decimal(text) {
-        Decimal::Value(p) => Ok(Asked::Request(with_choice(
-            request,
-            Choice::Overhead(p, MAX_LOG2_WORDS),
-            Word::Plain,
-        ))),
-        Decimal::NotANumber => {
-            report::not_a_percentage(err, text)?;
-            Ok(Asked::Stop)
+    // Every power above 63 is refused alike, so 64 stands for them.
+    fn take_value<R: Files<File = F>>(
+        &mut self,
+        rt: &R,
+        option: Valued,
+        text: &'a [u8],
+    ) -> Result<(), Stop<'a>> {
+        match option {
+            Valued::Samples => self.samples = Some(number(text)?),
+            Valued::Origin => self.origin = number(text)?,
+            Valued::Span => self.choice = Choice::Span(number(text)?, MAX_LOG2_WORDS),
+            Valued::Power => {
+                self.choice = Choice::Power(number(text)?.min(64) as u32, MAX_LOG2_WORDS)
+            }
+            Valued::Overhead => self.choice = Choice::Overhead(percentage(text)?, MAX_LOG2_WORDS),
+            Valued::Save => self.save = Some(text),
+            Valued::Index => self.index = Some(open_index(rt, text)?),
         }
-        Decimal::TooLarge => {
-            report::too_large(err, text, 999_999_999)?;
-            Ok(Asked::Stop)
+        Ok(())
+    }
+
+    fn take_plain<R: Files<File = F>>(&mut self, rt: &R, text: &'a [u8]) -> Result<(), Stop<'a>> {
+        if self.source.is_none() {
+            self.source = Some(open_source(rt, text)?);
+            return Ok(());
+        }
+        self.edges.push(number(text)?)?;
+        Ok(())
+    }
+
+    // Takes an argument that is no value, and answers the option whose value comes next. Any other text that begins with two
+    // dashes is taken for a misspelt option.
+    fn take_word<R: Files<File = F>>(
+        &mut self,
+        rt: &R,
+        text: &'a [u8],
+    ) -> Result<Option<Valued>, Stop<'a>> {
+        match text {
+            b"--samples" => Ok(Some(Valued::Samples)),
+            b"--origin" => Ok(Some(Valued::Origin)),
+            b"--span" => Ok(Some(Valued::Span)),
+            b"--power" => Ok(Some(Valued::Power)),
+            b"--overhead" => Ok(Some(Valued::Overhead)),
+            b"--save" => Ok(Some(Valued::Save)),
+            b"--index" => Ok(Some(Valued::Index)),
+            b"--help" => Err(Stop::Help),
+            b"--zeros" => {
+                self.polarity = Polarity::Zeros;
+                Ok(None)
+            }
+            [b'-', b'-', ..] => Err(Stop::Text(text, TextError::UnknownOption)),
+            _ => {
+                self.take_plain(rt, text)?;
+                Ok(None)
+            }
         }
     }
 }
 
-// A name that is no text names no file that can be opened.
-fn open_read<R: Files>(rt: &R, name: &[u8]) -> io::Result<R::File> {
-    match str::from_utf8(name) {
-        Ok(path) => fs::open(rt, path),
-        Err(_) => Err(io::Error::from(ErrorKind::InvalidFilename)),
+impl<'a, F: Read> Request<'a, F> {
+    // Reads the capture, from its file or from standard input, and answers its samples.
+    pub fn read(&mut self, rt: &impl Input, words: &mut [u64]) -> Result<u64, Fault> {
+        let read = match &mut self.source {
+            Some(Source::File(file)) => read_capture(file, words),
+            _ => read_capture(&mut rt.reader(), words),
+        };
+        match read {
+            Ok(samples) => Ok(samples),
+            Err(CaptureError::TooLong) => Err(Fault::TooLong(words.len())),
+            Err(CaptureError::NotRead) => Err(Fault::NotRead),
+        }
     }
 }
 
-fn take_file<R: Files>(
+pub fn parse_arguments<'a, R: Files>(
     rt: &R,
-    mut request: Request<R::File>,
-    text: &[u8],
-    err: &impl Print,
-) -> io::Result<Asked<R::File>> {
-    request.has_file = true;
-    if text == b"-".as_slice() {
-        return Ok(Asked::Request(request));
+    args: &'a [u8],
+) -> Result<Request<'a, R::File>, Stop<'a>> {
+    let mut request = Request::new();
+    let mut awaited = None;
+    for argument in args.split_inclusive(|byte| *byte == 0) {
+        let text = argument.strip_suffix(b"\0").unwrap_or(argument);
+        awaited = match awaited {
+            None => request.take_word(rt, text)?,
+            Some(option) => {
+                request.take_value(rt, option, text)?;
+                None
+            }
+        };
     }
-    match open_read(rt, text) {
-        Ok(file) => {
-            request.file = Some(file);
-            Ok(Asked::Request(request))
-        }
-        Err(error) => {
-            report::not_opened(err, text, error.kind() == ErrorKind::NotFound)?;
-            Ok(Asked::Stop)
-        }
-    }
-}
-
-// The file to save to stands in the arguments from `from` on.
-fn take_save<F: Drop>(mut request: Request<F>, from: usize, to: usize) -> Asked<F> {
-    request.save = Some((from, to));
-    Asked::Request(awaiting(request, Word::Plain))
-}
-
-fn take_index<R: Files>(
-    rt: &R,
-    mut request: Request<R::File>,
-    text: &[u8],
-    err: &impl Print,
-) -> io::Result<Asked<R::File>> {
-    match open_read(rt, text) {
-        Ok(file) => {
-            request.index = Some(file);
-            Ok(Asked::Request(awaiting(request, Word::Plain)))
-        }
-        Err(_) => {
-            report::index_not_opened(err, text)?;
-            Ok(Asked::Stop)
-        }
-    }
-}
-
-fn put(edges: &mut [u64; MOST_EDGES], i: usize, rank: u64) {
-    if i < MOST_EDGES {
-        edges[i] = rank;
-    }
-}
-
-fn keep_edge<F: Drop>(
-    mut request: Request<F>,
-    rank: u64,
-    edges: &mut [u64; MOST_EDGES],
-    err: &impl Print,
-) -> io::Result<Asked<F>> {
-    let i = request.edges;
-    if i >= MOST_EDGES {
-        report::too_many_edges(err, MOST_EDGES as u64)?;
-        return Ok(Asked::Stop);
-    }
-    put(edges, i, rank);
-    request.edges = i + 1;
-    Ok(Asked::Request(request))
-}
-
-fn take_edge<F: Drop>(
-    request: Request<F>,
-    text: &[u8],
-    edges: &mut [u64; MOST_EDGES],
-    err: &impl Print,
-) -> io::Result<Asked<F>> {
-    match parse_number(text) {
-        Parsed::Number(rank) => keep_edge(request, rank, edges, err),
-        Parsed::NotANumber => {
-            report::not_a_number(err, text)?;
-            Ok(Asked::Stop)
-        }
-        Parsed::TooLarge => {
-            report::too_large(err, text, u64::MAX)?;
-            Ok(Asked::Stop)
-        }
-    }
-}
-
-fn take_plain<R: Files>(
-    rt: &R,
-    request: Request<R::File>,
-    text: &[u8],
-    edges: &mut [u64; MOST_EDGES],
-    err: &impl Print,
-) -> io::Result<Asked<R::File>> {
-    if request.has_file {
-        return take_edge(request, text, edges, err);
-    }
-    take_file(rt, request, text, err)
-}
-
-fn take_word<R: Files>(
-    rt: &R,
-    mut request: Request<R::File>,
-    text: &[u8],
-    edges: &mut [u64; MOST_EDGES],
-    err: &impl Print,
-) -> io::Result<Asked<R::File>> {
-    let word = word_of(text);
-    match word {
-        Word::Zeros => {
-            request.is_zeros = true;
-            Ok(Asked::Request(request))
-        }
-        Word::Help => Ok(Asked::Help),
-        Word::Unknown => {
-            report::unknown_option(err, text)?;
-            Ok(Asked::Stop)
-        }
-        Word::Plain => take_plain(rt, request, text, edges, err),
-        _ => Ok(Asked::Request(awaiting(request, word))),
-    }
-}
-
-// The argument in the bytes from `from` to `to`.
-fn take_argument<R: Files>(
-    rt: &R,
-    request: Request<R::File>,
-    text: &[u8],
-    from: usize,
-    to: usize,
-    edges: &mut [u64; MOST_EDGES],
-    err: &impl Print,
-) -> io::Result<Asked<R::File>> {
-    let awaits = request.awaits;
-    match awaits {
-        Word::Plain => take_word(rt, request, text, edges, err),
-        Word::Overhead => take_percentage(request, text, err),
-        Word::Save => Ok(take_save(request, from, to)),
-        Word::Index => take_index(rt, request, text, err),
-        _ => take_number(request, awaits, text, err),
-    }
-}
-
-fn finish<F: Drop>(request: Request<F>, err: &impl Print) -> io::Result<Asked<F>> {
     if request.save.is_some() && request.index.is_some() {
-        report::save_and_index(err)?;
-        return Ok(Asked::Stop);
+        return Err(Stop::Fault(Fault::SaveAndIndex));
     }
-    match request.awaits {
-        Word::Plain => Ok(Asked::Request(request)),
-        _ => {
-            report::no_value(err)?;
-            Ok(Asked::Stop)
-        }
+    if awaited.is_some() {
+        return Err(Stop::Fault(Fault::NoValue));
     }
-}
-
-// Standard input, every sample, the first of them number 0, the default spacing.
-fn nothing<F: Drop>() -> Request<F> {
-    Request {
-        is_zeros: false,
-        samples: None,
-        origin: 0,
-        choice: Choice::Default,
-        awaits: Word::Plain,
-        has_file: false,
-        file: None,
-        edges: 0,
-        save: None,
-        index: None,
-    }
-}
-
-pub fn parse_arguments<R: Files>(
-    rt: &R,
-    args: &[u8],
-    edges: &mut [u64; MOST_EDGES],
-    err: &impl Print,
-) -> io::Result<Asked<R::File>> {
-    let mut request = nothing();
-    let mut from = 0;
-    while from < args.len() {
-        let to = from + find(&args[from..], 0);
-        match take_argument(rt, request, &args[from..to], from, to, edges, err)? {
-            Asked::Request(next) => {
-                request = next;
-            }
-            stopped => {
-                return Ok(stopped);
-            }
-        }
-        if to == args.len() {
-            break;
-        }
-        from = to + 1;
-    }
-    finish(request, err)
+    Ok(request)
 }

@@ -1,74 +1,36 @@
 // An index in a file: the image that the library writes and reads.
 use crate::capture::read_full;
-use crate::report;
-use edge_index::{Answer, Opened, Summary, read_image, write_image};
-use std::io::Read;
+use crate::report::{Fault, Stop};
+use edge_index::{Summary, read_image};
+use std::io::{ErrorKind, Read};
 use std::rt::Files;
 use std::{fs, io, str};
 
-// An index in the lent cells, or a stop: the error line is written.
-#[derive(Clone, Copy)]
-pub enum Indexed {
-    Summary(Summary),
-    Stop,
+// A name that is no text names no file.
+fn path(name: &[u8]) -> io::Result<&str> {
+    str::from_utf8(name).map_err(|_| io::Error::from(ErrorKind::InvalidFilename))
+}
+
+pub fn open_file<R: Files>(rt: &R, name: &[u8]) -> io::Result<R::File> {
+    fs::open(rt, path(name)?)
+}
+
+pub fn write_file(rt: &impl Files, name: &[u8], bytes: &[u8]) -> io::Result<()> {
+    fs::write(rt, path(name)?, bytes)
 }
 
 // Reads an index from a file. One that fills the buffer is longer than any that the cells hold.
-pub fn open_index(
+pub fn read_index(
     file: &mut impl Read,
     image: &mut [u8],
     inventory: &mut [u64],
     spill: &mut [u64],
-    err: &impl Print,
-) -> io::Result<Indexed> {
+) -> Result<Summary, Stop<'static>> {
     let Ok(n) = read_full(file, image) else {
-        report::index_not_read(err)?;
-        return Ok(Indexed::Stop);
+        return Err(Stop::Fault(Fault::IndexNotRead));
     };
     if n == image.len() {
-        report::index_too_long(err)?;
-        return Ok(Indexed::Stop);
+        return Err(Stop::Fault(Fault::IndexTooLong));
     }
-    match read_image(&image[..n], inventory, spill) {
-        Opened::Summary(summary) => Ok(Indexed::Summary(summary)),
-        Opened::Refused(refusal) => {
-            report::refused(err, refusal)?;
-            Ok(Indexed::Stop)
-        }
-    }
-}
-
-// A name that is no text names no file that can be written.
-fn write_file(rt: &impl Files, name: &[u8], bytes: &[u8]) -> bool {
-    match str::from_utf8(name) {
-        Ok(path) => fs::write(rt, path, bytes).is_ok(),
-        Err(_) => false,
-    }
-}
-
-// Writes an index to a file; false where it is not, and the error line is written.
-pub fn save_index(
-    rt: &impl Files,
-    name: &[u8],
-    summary: Summary,
-    inventory: &[u64],
-    spill: &[u64],
-    image: &mut [u8],
-    out: &impl Print,
-    err: &impl Print,
-) -> io::Result<bool> {
-    match write_image(summary, inventory, spill, image) {
-        Answer::Refused(refusal) => {
-            report::refused(err, refusal)?;
-            Ok(false)
-        }
-        Answer::Value(n) => {
-            if !write_file(rt, name, &image[..n as usize]) {
-                report::not_saved(err, name)?;
-                return Ok(false);
-            }
-            report::saved_line(out, n)?;
-            Ok(true)
-        }
-    }
+    Ok(read_image(&image[..n], inventory, spill)?)
 }

@@ -1,13 +1,11 @@
 // Runs document 02's W-203 through the library: A's image written, read, cut, padded and bent; what it writes is held to stdout.
 #![tactic(auto)]
 
-use edge_index::{
-    Answer, Opened, Parameters, Polarity, Refusal, Summary, read_image, refusal_number, write_image,
-};
+use edge_index::{Parameters, Polarity, Refusal, Summary, read_image, write_image};
 use std::io;
 
 // One row each: a field of the header, and the number that takes the place of A's.
-const ROWS: [(u64, u64); 14] = [
+const ROWS: [(usize, u64); 14] = [
     (0, 1),
     (0, 2),
     (1, 0x4000_0000_0000_0000),
@@ -25,7 +23,7 @@ const ROWS: [(u64, u64); 14] = [
 ];
 
 fn end_refused(rt: &impl Print, refusal: Refusal) -> io::Result<()> {
-    println!(rt; ": refused {}", refusal_number(refusal))
+    println!(rt; ": refused {}", refusal.number())
 }
 
 fn end_bytes(rt: &impl Print, bytes: &[u8]) -> io::Result<()> {
@@ -62,8 +60,8 @@ fn show_write(
 ) -> io::Result<()> {
     let none = [0u64; 0];
     match write_image(summary, inventory, &none, bytes) {
-        Answer::Value(n) => println!(rt; ": {n} bytes")?,
-        Answer::Refused(refusal) => end_refused(rt, refusal)?,
+        Ok(n) => println!(rt; ": {n} bytes")?,
+        Err(refusal) => end_refused(rt, refusal)?,
     }
     end_bytes(rt, bytes)
 }
@@ -74,20 +72,17 @@ fn show_read(rt: &impl Print, bytes: &[u8]) -> io::Result<()> {
     let mut none = [0u64; 0];
     let mut place = [0xffu8; 130];
     match read_image(bytes, &mut inventory, &mut none) {
-        Opened::Summary(summary) => {
+        Ok(summary) => {
             print!(rt; ", sixth cell {}, written back", inventory[5])?;
             show_write(rt, summary, &inventory, &mut place)
         }
-        Opened::Refused(refusal) => end_refused(rt, refusal),
+        Err(refusal) => end_refused(rt, refusal),
     }
 }
 
-// The first n of some bytes.
+// The first n of some bytes, or all where they are fewer.
 fn first(bytes: &[u8], n: usize) -> &[u8] {
-    if n > bytes.len() {
-        return bytes;
-    }
-    &bytes[..n]
+    bytes.get(..n).unwrap_or(bytes)
 }
 
 fn show_cut(rt: &impl Print, image: &[u8], n: usize) -> io::Result<()> {
@@ -95,29 +90,15 @@ fn show_cut(rt: &impl Print, image: &[u8], n: usize) -> io::Result<()> {
     show_read(rt, first(image, n))
 }
 
-fn put(bytes: &mut [u8], at: usize, byte: u64) {
-    if at < bytes.len() {
-        bytes[at] = (byte % 256) as u8;
-    }
-}
-
 // Field `field`, the lowest byte first.
-fn put_field(bytes: &mut [u8], field: u64, number: u64) {
-    if field > 10 {
-        return;
+fn put_field(bytes: &mut [u8; 130], field: usize, number: u64) {
+    if field < 11 {
+        let at = 8 * field;
+        bytes[at..at + 8].copy_from_slice(&number.to_le_bytes());
     }
-    let at = 8 * field as usize;
-    put(bytes, at, number);
-    put(bytes, at + 1, number >> 8);
-    put(bytes, at + 2, number >> 16);
-    put(bytes, at + 3, number >> 24);
-    put(bytes, at + 4, number >> 32);
-    put(bytes, at + 5, number >> 40);
-    put(bytes, at + 6, number >> 48);
-    put(bytes, at + 7, number >> 56);
 }
 
-fn show_bent(rt: &impl Print, image: [u8; 130], field: u64, number: u64) -> io::Result<()> {
+fn show_bent(rt: &impl Print, image: [u8; 130], field: usize, number: u64) -> io::Result<()> {
     let mut bytes = image;
     put_field(&mut bytes, field, number);
     print!(rt; "field {field} is {number}")?;

@@ -1,12 +1,14 @@
 -- The two round trips between words and bytes: a word is the pack of its eight lanes, and eight bytes are the lanes of their word.
-use mathlib.Core.Path.{◌≡◌, refl, sym, ◌∙◌}
+use mathlib.Core.Path.{◌≡◌, refl, sym, ap, ◌∙◌}
 use mathlib.Core.List.{List, [], ◌∷◌, ◌++◌, append_assoc, append-nil}
-use Prim.Native.Nat.{ℕ, zero, suc, ◌+◌, ◌*◌, ◌^◌, ◌≤◌, ◌<◌}
+use Prim.Native.Nat.{ℕ, zero, suc, ◌+◌, ◌*◌, ◌/◌, ◌%◌, ◌^◌, ◌≤◌, ◌<◌}
 use native.Mathlib.Nat.{mod-eq_of_lt}
 use native.Mathlib.Numerals.{add-one}
 use native.Mathlib.Omega.{arith}
 use lib.ListN.{length, take, drop, get_or, set, length-append, length-drop}
 use lib.Seq.{ext_get_or, take-suc, length-take-le, take-add, drop-drop, get_or-take, get_or-drop, drop-append-add}
+use Rattle.std.specs.Simd.{first_chunks}
+use Rattle.std.specs.Int.{w64, to_le_bytes, from_le_bytes}
 use Rattle.rank_sel.specs.Lists.{Below}
 use Rattle.rank_sel.proofs.Lists.{below_append, below_none}
 use Rattle.inventory.specs.Lanes.{lane_of, pack, tabulate}
@@ -40,6 +42,11 @@ module _ (bs : List ℕ) (at : ℕ) where
   unfolding word_from
   word_part = pack_ext 8 (λ j. get_or bs (at + j) 0) (λ j. get_or (take 8 (drop at bs)) j 0) 8 (λ j l. sym (byte j l))
 
+  -- the word that `from_le_bytes` makes of them
+  word_le : (w : ℕ) → w ≡ from_le_bytes w64 (take 8 (drop at bs)) → w ≡ word_from bs at
+  unfolding pack
+  word_le w v = rw word_part (v ∙ omega arith)
+
   module _ (h : Below 256 bs) where
     pub word_lt : word_from bs at < 2 ^ 64
     unfolding word_from
@@ -56,22 +63,23 @@ module _ (bs : List ℕ) (at : ℕ) where
         let l : j < 8 = omega arith in
         tab_at (lane_of 8 (pack 8 v 8)) 8 j l ∙ pack-lane 8 v (λ i. h (at + i)) 8 j l ∙ sym (byte j l))
 
--- four bytes, as the code adds them up, and a word of two such halves
-pub half_sum : (bs : List ℕ) (at : ℕ)
-    → get_or bs at 0 + get_or bs (at + 1) 0 * 256 + get_or bs (at + 2) 0 * 65536 + get_or bs (at + 3) 0 * 16777216
-    ≡ pack 8 (λ j. get_or bs (at + j) 0) 4
-unfolding pack
-half_sum bs at = let e : at + 0 ≡ at = omega arith in rw e (omega arith)
+-- eights of a list
+chunk : (n : ℕ) (xs : List ℕ) (i : ℕ) → i < n → get_or (first_chunks 8 n xs) i [] ≡ take 8 (drop (8 * i) xs)
+chunk zero xs i h = absurd (omega arith)
+chunk (suc n) xs zero h = refl
+chunk (suc n) xs (suc i) h =
+    chunk n (drop 8 xs) i (omega arith) ∙ ap (take 8) (drop-drop (8 * i) 8 xs ∙ ap (λ (z : ℕ). drop z xs) (omega arith))
 
-pub word_halves : (bs : List ℕ) (at : ℕ)
-    → pack 8 (λ j. get_or bs (at + j) 0) 4 + pack 8 (λ j. get_or bs (at + 4 + j) 0) 4 * 4294967296 ≡ word_from bs at
-unfolding pack word_from
-word_halves bs at =
-    let e0 : at + 4 + 0 ≡ at + 4 = omega arith in
-    let e1 : at + 4 + 1 ≡ at + 5 = omega arith in
-    let e2 : at + 4 + 2 ≡ at + 6 = omega arith in
-    let e3 : at + 4 + 3 ≡ at + 7 = omega arith in
-    rw (e0, e1, e2, e3) (omega arith)
+pub chunk_word : (bs : List ℕ) (at n i w : ℕ) (chunks : List (List ℕ)) → i < n → chunks ≡ first_chunks 8 n (drop at bs)
+    → w ≡ from_le_bytes w64 (get_or chunks i []) → w ≡ word_from bs (at + 8 * i)
+chunk_word bs at n i w chunks h e v =
+    word_le bs (at + 8 * i) w
+    (v ∙ ap (λ (z : List (List ℕ)). from_le_bytes w64 (get_or z i [])) e ∙ ap (from_le_bytes w64) (chunk n (drop at bs) i h ∙ ap (take 8) (drop-drop (8 * i) at bs)))
+
+-- the bytes that `to_le_bytes` makes
+pub bytes_le : (w : ℕ) → to_le_bytes w64 w ≡ word_bytes w
+unfolding word_bytes tabulate lane_of
+bytes_le w = let e : w % 256 ≡ w / 1 % 256 = omega arith in rw e
 
 -- ---- some words
 pub bytes_length : (ws : List ℕ) → length (bytes_of ws) ≡ 8 * length ws

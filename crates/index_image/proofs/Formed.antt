@@ -5,10 +5,9 @@ use mathlib.Core.List.{List, [], ◌∷◌, ◌++◌, append_assoc, append-nil}
 use mathlib.Core.Path.{◌≡◌, refl, sym, ap, ap₂, ◌∙◌}
 use Prim.Native.Nat.{ℕ, zero, suc, ◌+◌, ◌*◌, ◌^◌, ◌≤◌, ◌<◌}
 use native.Mathlib.Omega.{arith}
-use lib.Dec.{eqb, ltb}
 use lib.ListN.{length, take, drop, get_or, length-append, length-drop, take-append-drop}
 use lib.Seq.{take-suc, take_all, drop-drop, length-take-le}
-use borrow.Author.Tests.{eqb-true, eqb-false, eq-eqb, ne_eqb, ltb-true, ltb-false, lt-ltb, le-ltb, not-false}
+use borrow.Author.Tests.{not-false}
 use Rattle.rank_sel.specs.Lists.{Below}
 use Rattle.rank_sel.specs.Outcome.{any_of, NoneOf}
 use Rattle.rank_sel.proofs.Lists.{same_yes, same_is, each_below}
@@ -25,21 +24,6 @@ use Rattle.inventory.proofs.Lawful.{or_false, lawful}
 use Rattle.index_image.specs.Bytes.{bytes_of, word_from, words_from}
 use Rattle.index_image.specs.Image.{offset_of, header_of, image_of, of_summary_alone, numbers_in, summary_in, inventory_in, spill_in, image_unlawful}
 use Rattle.index_image.proofs.Bytes.{bytes_length, bytes_append, bytes_words, words_inside, words_length, word_lt}
-
--- two tests that ask the same
-pub same_test : (a b x y : ℕ) → (a ≡ b → x ≡ y) → (x ≡ y → a ≡ b) → eqb a b ≡ eqb x y
-same_test a b x y f g = go (eqb a b) refl
-  where
-    go : (t : Bool) → eqb a b ≡ t → t ≡ eqb x y
-    go true e = sym (eq-eqb x y (f (eqb-true a b e)))
-    go false e = sym (ne_eqb x y (λ q. eqb-false a b e (g q)))
-
-pub same_less : (a b x y : ℕ) → (a < b → x < y) → (b ≤ a → y ≤ x) → ltb a b ≡ ltb x y
-same_less a b x y f g = go (ltb a b) refl
-  where
-    go : (t : Bool) → ltb a b ≡ t → t ≡ ltb x y
-    go true e = sym (lt-ltb x y (f (ltb-true a b e)))
-    go false e = sym (le-ltb x y (g (ltb-false a b e)))
 
 -- the first eight of a list, one by one
 pub first_eight : (l : List ℕ) → 8 ≤ length l
@@ -147,12 +131,6 @@ abbrev pub field : List ℕ → ℕ → ℕ
 field bs i = word_from bs (0 + 8 * i)
 
 module _ (bs : List ℕ) where
-  pub header_is : words_from bs 0 11
-      ≡ field bs 0 ∷ field bs 1 ∷ field bs 2 ∷ field bs 3 ∷ field bs 4 ∷ field bs 5 ∷ field bs 6 ∷ field bs 7 ∷ field bs 8 ∷ field bs 9
-      ∷ field bs 10 ∷ []
-  unfolding words_from tabulate
-  header_is = refl
-
   pub inventory_said : (summary_in bs).inventory_len ≡ field bs 7
   unfolding summary_in summary_at words_from tabulate
   inventory_said = refl

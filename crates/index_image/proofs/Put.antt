@@ -1,14 +1,15 @@
 -- Others in the place of a list's own: a second put just behind the first is one put of both, and every writer is that.
 use mathlib.Core.Path.{◌≡◌, sym, ap, ◌∙◌}
 use mathlib.Core.List.{List, [], ◌++◌, append_assoc}
-use Prim.Native.Nat.{ℕ, suc, ◌+◌, ◌*◌, ◌/◌, ◌%◌, ◌≤◌, ◌<◌}
+use Prim.Native.Nat.{ℕ, ◌+◌, ◌*◌, ◌≤◌, ◌<◌}
 use native.Mathlib.Nat.{add-zero}
 use native.Mathlib.Omega.{arith}
-use lib.ListN.{length, take, drop, get_or, set, length-append, take-append-drop}
-use lib.Seq.{sets-eq, take_at, drop-drop, length-take-le, drop-append-add}
-use Rattle.inventory.specs.Lanes.{lane_of, tabulate}
+use lib.ListN.{length, take, drop, get_or, length-append, take-append-drop}
+use lib.Seq.{take_at, drop-drop, length-take-le, drop-append-add}
+use borrow.Rule.Slice.PartMut.{put_mid}
+use Rattle.std.specs.Int.{w64, to_le_bytes}
 use Rattle.index_image.specs.Bytes.{word_bytes, bytes_of, put_at}
-use Rattle.index_image.proofs.Bytes.{eight, bytes_length, bytes_more}
+use Rattle.index_image.proofs.Bytes.{eight, bytes_le, bytes_length, bytes_more}
 
 pub put_none : (at : ℕ) (l : List ℕ) → put_at at [] l ≡ l
 unfolding put_at
@@ -45,28 +46,11 @@ pub put_first : (new l : List ℕ) → put_at 0 new l ≡ new ++ drop (length ne
 unfolding put_at
 put_first new l = let z : 0 + length new ≡ length new = omega arith in rw z
 
--- eight stores, a byte each
-pub put_bytes : (l : List ℕ) (at w : ℕ) → at + 8 ≤ length l
-    → set
-    (set
-    (set
-    (set
-    (set
-    (set (set (set l at (w % 256)) (at + 1) (w / 256 % 256)) (at + 2) (w / 65536 % 256))
-    (at + 3) (w / 16777216 % 256))
-    (at + 4) (w / 4294967296 % 256))
-    (at + 5) (w / 1099511627776 % 256))
-    (at + 6) (w / 281474976710656 % 256))
-    (at + 7) (w / 72057594037927936 % 256)
-    ≡ put_at at (word_bytes w) l
-unfolding put_at word_bytes tabulate lane_of
-put_bytes l at w h =
-    let e0 : w % 256 ≡ w / 1 % 256 = omega arith in
-    let e1 : at + 1 ≡ suc at = omega arith in
-    let e2 : at + 2 ≡ suc (suc at) = omega arith in
-    let e3 : at + 3 ≡ suc (suc (suc at)) = omega arith in
-    let e4 : at + 4 ≡ suc (suc (suc (suc at))) = omega arith in
-    let e5 : at + 5 ≡ suc (suc (suc (suc (suc at)))) = omega arith in
-    let e6 : at + 6 ≡ suc (suc (suc (suc (suc (suc at))))) = omega arith in
-    let e7 : at + 7 ≡ suc (suc (suc (suc (suc (suc (suc at)))))) = omega arith in
-    rw (e0, e1, e2, e3, e4, e5, e6, e7) (sets-eq (word_bytes w) l at h ∙ append_assoc (take at l) (word_bytes w) (drop (at + 8) l))
+-- a word's bytes, copied over eight
+pub put_eight : (l new : List ℕ) (at k w : ℕ) → k ≡ 8 → new ≡ to_le_bytes w64 w → put_mid at k l new ≡ put_at at (word_bytes w) l
+unfolding put_at
+put_eight l new at k w e h =
+    let g : new ≡ word_bytes w = h ∙ bytes_le w in
+    let d : drop k (drop at l) ≡ drop (at + length (word_bytes w)) l =
+    drop-drop k at l ∙ ap (λ (z : ℕ). drop (at + z) l) (e ∙ sym (eight w)) in
+    rw (g, d)

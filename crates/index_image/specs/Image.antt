@@ -1,15 +1,13 @@
 -- The image of an index, and what writing and reading one answer and leave. Document 02, W-203.
-use Rattle.std.specs.Prelude.{Bool, not, ◌||◌, List, [], ◌∷◌, ◌++◌, ◌≡◌, ℕ, ◌+◌, ◌*◌, ltb, length, take, drop, get_or}
+use Rattle.std.specs.Prelude.{Bool, not, ◌||◌, List, [], ◌∷◌, ◌++◌, ◌≡◌, ℕ, ◌+◌, ◌*◌, ltb, length, take, drop, get_or, Result}
 use Rattle.rank_sel.specs.Lists.{same_list}
-use Rattle.rank_sel.specs.Outcome.{Outcome, answer, refused, number_of, answered, Conditions, any_of, refuse_by, and_then}
-use Rattle.rank_sel.specs.declared.Answer.{Answer}
+use Rattle.rank_sel.specs.Outcome.{Outcome, answer, refused, outcome, Conditions, any_of, refuse_by, and_then}
+use Rattle.rank_sel.specs.declared.Refusal.{Refusal}
 use Rattle.bit_record.specs.Record.{of_len}
 use Rattle.inventory.specs.Lawful.{of_summary, of_cells}
 use Rattle.inventory.specs.Numbers.{summary_at, numbers_of}
 use Rattle.inventory.specs.declared.summary.Summary.{Summary}
 use Rattle.index_image.specs.Bytes.{bytes_of, words_from}
-use Rattle.index_image.specs.declared.image.Opened.{Opened}
-use Rattle.index_image.specs.declared.image.Opened.TheVariants as OpenedVariants
 
 -- ---- the image
 -- the bytes of the header, and where cells so many after it stand
@@ -51,8 +49,8 @@ bytes_after (answer image) bytes = image ++ drop (length image) bytes
 bytes_after (refused n) bytes = bytes
 
 -- a writing whose outcome is o left these bytes and answered r
-pub record Wrote (o : Outcome (List ℕ)) (bytes₀ bytes : List ℕ) (r : Answer) : Type 0 where
-  pub told : answered r ≡ length_of o
+pub record Wrote (o : Outcome (List ℕ)) (bytes₀ bytes : List ℕ) (r : Result ℕ Refusal) : Type 0 where
+  pub told : outcome r ≡ length_of o
   pub bytes_are : bytes ≡ bytes_after o bytes₀
 
 -- ---- reading: 15, 6, 7
@@ -82,17 +80,13 @@ of_reading bytes inv sp = (image_unlawful bytes, 15) ∷ of_cells (summary_in by
 unfoldable pub read_of : List ℕ → List ℕ → List ℕ → Outcome Summary
 read_of bytes inv sp = refuse_by (of_reading bytes inv sp) (answer (summary_in bytes))
 
-abbrev pub opened : Opened → Outcome Summary
-opened (OpenedVariants.Summary t) = answer t
-opened (OpenedVariants.Refused r) = refused (number_of r)
-
 -- what lent cells hold after a reading whose outcome is o: the image's, and behind them what stood there; all as it was on a refusal
 abbrev pub cells_after : Outcome Summary → List ℕ → List ℕ → List ℕ
 cells_after (answer t) cells lent = cells ++ drop (length cells) lent
 cells_after (refused n) cells lent = lent
 
 -- a reading of these bytes left these cells and answered r
-pub record Read (bytes inv₀ inv sp₀ sp : List ℕ) (r : Opened) : Type 0 where
-  pub told : opened r ≡ read_of bytes inv₀ sp₀
+pub record Read (bytes inv₀ inv sp₀ sp : List ℕ) (r : Result Summary Refusal) : Type 0 where
+  pub told : outcome r ≡ read_of bytes inv₀ sp₀
   pub inventory : inv ≡ cells_after (read_of bytes inv₀ sp₀) (inventory_in bytes) inv₀
   pub spill : sp ≡ cells_after (read_of bytes inv₀ sp₀) (spill_in bytes) sp₀

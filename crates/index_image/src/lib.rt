@@ -5,4 +5,4 @@ mod header;
 mod image;
 mod words;
 
-pub use image::{Opened, read_image, write_image};
+pub use image::{read_image, write_image};

@@ -1,6 +1,6 @@
 // A summary as nine numbers, for the image and for C.
 ghost use Rattle.std.specs.Prelude.{◌≡◌};
-ghost use Rattle.inventory.specs.Numbers.{cut as cut_to32, numbers_of, polarity_at, polarity_code, summary_at};
+ghost use Rattle.inventory.specs.Numbers.{cut as cut_to32, numbers_of, polarity_at, summary_at};
 
 use crate::summary::Summary;
 use bit_record::Polarity;
@@ -9,6 +9,7 @@ use spacing::Parameters;
 // The numbers of a summary.
 pub const SUMMARY_NUMBERS: usize = 9;
 
+// From a number, since images and C have numbers.
 pub fn polarity_at(code: u64) -> Polarity
     ensures { result ≡ polarity_at code }
 {
@@ -18,24 +19,12 @@ pub fn polarity_at(code: u64) -> Polarity
     Polarity::Zeros
 }
 
-fn polarity_code(polarity: Polarity) -> u64
-    ensures { result ≡ polarity_code polarity }
-{
-    match polarity {
-        Polarity::Ones => 0,
-        Polarity::Zeros => 1,
-    }
-}
-
 // The library's logarithms are u32. A larger number is refusal 9 of a summary, a no of check, and 3 of a choice; so
 // is the largest u32.
 pub fn cut(n: u64) -> u32
     ensures { result ≡ cut_to32 n }
 {
-    if n > 0xffff_ffff {
-        return 0xffff_ffff;
-    }
-    n as u32
+    u32::try_from(n).unwrap_or(u32::MAX)
 }
 
 pub fn summary_at(s: &[u64; SUMMARY_NUMBERS]) -> Summary
@@ -61,9 +50,8 @@ pub fn numbers_of(summary: Summary) -> [u64; SUMMARY_NUMBERS]
     ensures { result ≡ numbers_of summary }
 {
     let plan = summary.plan;
-    let polarity = plan.polarity;
     [
-        polarity_code(polarity),
+        plan.polarity as u64,
         plan.len,
         plan.num,
         summary.origin,

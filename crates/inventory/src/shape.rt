@@ -3,7 +3,7 @@ ghost use Rattle.std.specs.Prelude.{◌≡◌, ◌^◌, ◌≤◌, ◌<◌};
 ghost use Rattle.inventory.specs.Shape.{from_span, log2_ones_per_sub32, log2_quantum, shape_of, spilled_by};
 
 use crate::spans::taken_off;
-use rank_sel::{pow2, saturating_sub};
+use rank_sel::pow2;
 
 // How wide an entry's numbers are.
 #[derive(Clone, Copy)]
@@ -45,7 +45,7 @@ pub fn from_span(span: u64) -> SpanType
 pub fn log2_ones_per_sub32(span: u64, log2_ones_per_sub16: u32) -> u32
     ensures { (result ≡ log2_ones_per_sub32 span log2_ones_per_sub16) × (result ≤ log2_ones_per_sub16) }
 {
-    saturating_sub(log2_ones_per_sub16 as u64, taken_off(span)) as u32
+    (log2_ones_per_sub16 as u64).saturating_sub(taken_off(span)) as u32
 }
 
 // The spacing of an entry's marks.
@@ -66,8 +66,8 @@ pub fn spilled_by(kind: SpanType, marks: u64, log2_words_per_subinventory: u32) 
 {
     match kind {
         SpanType::U16 => 0,
-        SpanType::U32 => { saturating_sub((marks + 1) / 2, pow2(log2_words_per_subinventory) - 1) }
-        SpanType::U64 => saturating_sub(marks, pow2(log2_words_per_subinventory)),
+        SpanType::U32 => { ((marks + 1) / 2).saturating_sub(pow2(log2_words_per_subinventory) - 1) }
+        SpanType::U64 => marks.saturating_sub(pow2(log2_words_per_subinventory)),
     }
 }
 

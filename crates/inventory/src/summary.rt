@@ -1,15 +1,15 @@
 // A summary: its counts, and whether it is by the rules.
 ghost use Rattle.std.specs.Prelude.{not, [], ◌∷◌, ◌≡◌, ◌*◌, ◌^◌, ◌≤◌, ◌<◌, eqb, ltb};
-ghost use Rattle.rank_sel.specs.Outcome.{number_of, test_by, tested};
+ghost use Rattle.rank_sel.specs.Outcome.{number_of, outcome, test_by};
 ghost use Rattle.spacing.specs.Spacing.{L, M, N, max_log2_words};
 ghost use Rattle.inventory.specs.Index.{entries_of, inventory_len_of, ranks_of, stride_by};
 ghost use Rattle.inventory.specs.Lawful.{of_cells, of_summary, unlawful};
 
-use rank_sel::{Refusal, Tested, ceil_shift, min, pow2, saturating_sub};
+use rank_sel::{Refusal, ceil_shift, pow2};
 use spacing::{MAX_LOG2_WORDS_PER_SUBINVENTORY, Parameters};
 
 // What document 01 calls the summary: a plan and the two cell counts; and the sample number of bit 0, document 02's origin.
-#[derive(Clone, Copy)]
+#[derive(Clone, Copy, Debug, PartialEq, Eq)]
 pub struct Summary {
     pub plan: Parameters,
     pub origin: u64,
@@ -39,7 +39,7 @@ pub fn entry_ranks(plan: Parameters, e: u64) -> u64
     ensures { result ≡ ranks_of plan e }
 {
     let ones = pow2(plan.log2_ones_per_inventory);
-    min(ones, plan.num - e * ones)
+    ones.min(plan.num - e * ones)
 }
 
 // The rule's count may pass 2^64: it is taken off the given one, and never reckoned. The last shift drops no bit, since
@@ -76,45 +76,42 @@ fn is_lawful(summary: Summary) -> bool
     if m > MAX_LOG2_WORDS_PER_SUBINVENTORY {
         return false;
     }
-    if plan.log2_ones_per_sub16 as u64 != saturating_sub(l as u64, m as u64 + 2) {
+    if plan.log2_ones_per_sub16 as u64 != (l as u64).saturating_sub(m as u64 + 2) {
         return false;
     }
     is_inventory_len(plan, summary.inventory_len)
 }
 
 // Refusal 9: the one test of a summary.
-pub fn test_summary(summary: Summary) -> Tested
+pub fn test_summary(summary: Summary) -> Result<(), Refusal>
     requires { summary.plan.len < 2 ^ 62 }
-    ensures { tested result ≡ test_by (of_summary summary) }
+    ensures { outcome result ≡ test_by (of_summary summary) }
 {
     if is_lawful(summary) {
-        return Tested::Passed;
+        return Ok(());
     }
-    Tested::Refused(Refusal::SummaryUnlawful)
+    Err(Refusal::SummaryUnlawful)
 }
 
 // Refusals 6 and 7: fewer cells are lent than the summary counts.
-pub fn test_lent(lent: u64, count: u64, refusal: Refusal) -> Tested
-    ensures { tested result ≡ test_by ((ltb lent count, number_of refusal) ∷ []) }
+pub fn test_lent(lent: u64, count: u64, refusal: Refusal) -> Result<(), Refusal>
+    ensures { outcome result ≡ test_by ((ltb lent count, number_of refusal) ∷ []) }
 {
     if lent < count {
-        return Tested::Refused(refusal);
+        return Err(refusal);
     }
-    Tested::Passed
+    Ok(())
 }
 
 // Both, where no jump waits for them: in one function they cost a jump 1.5 ns.
-pub fn test_cells(summary: Summary, inventory: &[u64], spill: &[u64]) -> Tested
-    ensures { tested result ≡ test_by (of_cells summary inventory.now spill.now) }
+pub fn test_cells(summary: Summary, inventory: &[u64], spill: &[u64]) -> Result<(), Refusal>
+    ensures { outcome result ≡ test_by (of_cells summary inventory.now spill.now) }
 {
-    let own = test_lent(
+    test_lent(
         inventory.len() as u64,
         summary.inventory_len,
         Refusal::InventoryTooShort,
-    );
-    let Tested::Passed = own else {
-        return own;
-    };
+    )?;
     test_lent(
         spill.len() as u64,
         summary.spill_len,

@@ -6,10 +6,9 @@ use mathlib.Core.Option.{Option, none, some}
 use mathlib.Core.Path.{◌≡◌, refl, sym, ap, ◌∙◌}
 use Prim.Native.Nat.{ℕ}
 use native.Mathlib.Omega.{arith}
-use Rattle.rank_sel.specs.Outcome.{Outcome, answer, refused, number_of, refuse_if, or_refuse, Conditions, refuse_by, test_by, any_of, NoneOf, tested, reason_of, and_then}
+use Rattle.rank_sel.specs.Outcome.{Outcome, answer, refused, number_of, refuse_if, or_refuse, Conditions, refuse_by, test_by, any_of, NoneOf, outcome, and_then}
 use Rattle.rank_sel.specs.declared.Refusal.{Refusal}
-use Rattle.rank_sel.specs.declared.Tested.{Tested}
-use Rattle.rank_sel.specs.declared.Tested.TheVariants.{Passed, Refused}
+use Rattle.std.specs.Prelude.{Result, Ok, Err, IsErr, IsErrAnd}
 
 -- a refusal is no answer
 pub never : {A B : Type 0} {n : ℕ} {a : A} → refused n ≡ answer a → B
@@ -127,29 +126,22 @@ pub none_any : (cs : Conditions) → NoneOf cs → any_of cs ≡ false
 none_any [] h = refl
 none_any (c ∷ cs) h = rw h.0 (none_any cs h.1)
 
--- x says what the tests found
-pub record Tells (cs : Conditions) (x : Tested) : Type 0 where
-  pub told : tested x ≡ test_by cs
+-- ---- what `?` hands on
+-- a refusal, whatever an answer would have gone on to
+pub handed_on : {A B : Type 0} (r : Result B Refusal) (e : Refusal) → IsErr r × IsErrAnd r (λ x. x ≡ e) → (o : Outcome A)
+    → refused (number_of e) ≡ o → (go : A → Outcome B) → outcome r ≡ and_then o go
+handed_on {A = A} (Err x) e h o eo go = ap (λ (z : Refusal). refused (number_of z)) h.1 ∙ ap (λ (p : Outcome A). and_then p go) eo
+handed_on {A = A} (Ok b) e h o eo go = absurd h.1
 
-module _ {cs : Conditions} {x : Tested} (w : Tells cs x) where
-  -- it passed: none of the conditions holds, and what comes after the tests is the answer
-  pub passed_none : x ≡ Passed → NoneOf cs
-  passed_none e = (passed_all cs (answer tt) tt (sym w.told ∙ ap tested e)).0
+-- of tests, whatever comes after them
+pub tests_handed_on : {B : Type 0} (r : Result B Refusal) (e : Refusal) → IsErr r × IsErrAnd r (λ x. x ≡ e) → (cs : Conditions)
+    → refused (number_of e) ≡ test_by cs → (rest : Outcome B) → outcome r ≡ refuse_by cs rest
+tests_handed_on r e h cs ecs rest = handed_on r e h (test_by cs) ecs (λ u. rest) ∙ sym (tests_then cs rest)
 
-  pub passed_then : {A : Type 0} → x ≡ Passed → (rest : Outcome A) → rest ≡ refuse_by cs rest
-  passed_then e rest = sym (passing cs rest (passed_none e))
+-- tests that were passed: none of the conditions holds
+pub passed_none : (cs : Conditions) → answer tt ≡ test_by cs → NoneOf cs
+passed_none cs e = (passed_all cs (answer tt) tt (sym e)).0
 
-  -- it refused: so does the call, for that reason
-  pub stopped_then : {A : Type 0} {q : Refusal} (y : Refusal) → x ≡ Refused q → y ≡ reason_of x → (rest : Outcome A)
-      → refused (number_of y) ≡ refuse_by cs rest
-  stopped_then y e ey rest =
-      ap (λ (z : Refusal). refused (number_of z)) (ey ∙ ap reason_of e)
-      ∙ sym (tests_then cs rest ∙ ap (λ (o : Outcome (Unit {0})). and_then o (λ u. rest)) (sym w.told ∙ ap tested e))
-
--- one test after another
-module _ {cs : Conditions} {x : Tested} (w : Tells cs x) (ds : Conditions) where
-  pub stops : {q : Refusal} → x ≡ Refused q → Tells (cs ++ ds) x
-  stops {q} e = record { told = ap tested e ∙ stopped_then w q e (sym (ap reason_of e)) (test_by ds) ∙ sym (tests_more cs ds (answer tt)) }
-
-  pub goes_on : {y : Tested} → x ≡ Passed → Tells ds y → Tells (cs ++ ds) y
-  goes_on {y} e v = record { told = v.told ∙ passed_then w e (test_by ds) ∙ sym (tests_more cs ds (answer tt)) }
+-- and what comes after them is the answer
+pub passed_then : {A : Type 0} (cs : Conditions) → answer tt ≡ test_by cs → (rest : Outcome A) → rest ≡ refuse_by cs rest
+passed_then cs e rest = sym (passing cs rest (passed_none cs e))

@@ -1,12 +1,8 @@
 -- What a call answers: values, or the number of one refusal. Each answer enum has a definition that reads it as an Outcome.
-use Rattle.std.specs.Prelude.{Bool, true, false, ◌||◌, List, [], ◌∷◌, ◌≡◌, ℕ}
+use Rattle.std.specs.Prelude.{Bool, true, false, ◌||◌, List, [], ◌∷◌, ◌≡◌, ℕ, Result, Ok, Err}
 use Rattle.std.proofs.Math.Option.{Option, none, some}
-use Rattle.rank_sel.specs.declared.Answer.{Answer}
-use Rattle.rank_sel.specs.declared.Answer.TheVariants.{Value, Refused}
 use Rattle.rank_sel.specs.declared.Refusal.{Refusal}
 use Rattle.rank_sel.specs.declared.Refusal.TheVariants.{LenTooLarge, TooFewWords, OnesPerInventoryTooLarge, WordsPerSubinventoryTooLarge, OverheadNotPositive, InventoryTooShort, SpillTooShort, RankTooLarge, SummaryUnlawful, CellsUnlawful, RanksFall, ListFalls, TooFewPlaces, OriginTooLarge, ImageUnlawful, PlaceTooShort}
-use Rattle.rank_sel.specs.declared.Tested.{Tested}
-use Rattle.rank_sel.specs.declared.Tested.TheVariants as TestedVariants
 
 pub data Outcome (A : Type 0) : Type 0 where
   answer : A → Outcome A
@@ -31,9 +27,10 @@ number_of OriginTooLarge = 14
 number_of ImageUnlawful = 15
 number_of PlaceTooShort = 16
 
-abbrev pub answered : Answer → Outcome ℕ
-answered (Value n) = answer n
-answered (Refused r) = refused (number_of r)
+-- what a call said, as an Outcome
+abbrev pub outcome : {A : Type 0} → Result A Refusal → Outcome A
+outcome (Ok a) = answer a
+outcome (Err r) = refused (number_of r)
 
 -- number n where its condition holds, else what the tests after it say
 abbrev pub refuse_if : {A : Type 0} → Bool → ℕ → Outcome A → Outcome A
@@ -62,15 +59,6 @@ any_of (c ∷ cs) = c.0 || any_of cs
 abbrev pub NoneOf : Conditions → Type 0
 NoneOf [] = Unit {0}
 NoneOf (c ∷ cs) = (c.0 ≡ false) × NoneOf cs
-
-abbrev pub tested : Tested → Outcome (Unit {0})
-tested TestedVariants.Passed = answer tt
-tested (TestedVariants.Refused r) = refused (number_of r)
-
--- what a test refused for; one that passed refused for nothing, and any case would do
-abbrev pub reason_of : Tested → Refusal
-reason_of TestedVariants.Passed = SummaryUnlawful
-reason_of (TestedVariants.Refused r) = r
 
 -- number n where there is nothing, else what there is
 abbrev pub or_refuse : {A : Type 0} → ℕ → Option A → Outcome A

@@ -19,10 +19,8 @@ use Rattle.inventory.specs.declared.shape.Shape.{Shape}
 use Rattle.inventory.specs.declared.summary.Summary.{Summary}
 use Rattle.read_inventory.specs.Jump.{sample_of, hint_sample, dwell_by, dwell_at}
 use Rattle.read_inventory.specs.Read.{cell_at, kind_at, span_at, quantum_at, shape_at, start, own, over, place_by, place_at, number_at, span_too_small, mark_at, entry_of_rank, mark_number, residual, is_u64, Mark, mark_of_rank, Hint, hint_at, finish, position_of}
-use Rattle.read_inventory.specs.Steps.{is_over, decoded_by, decode_of, marked, MarkLow}
+use Rattle.read_inventory.specs.Steps.{is_over, decoded_by, decode_of}
 use Rattle.read_inventory.specs.declared.decode.Decoded.{Decoded}
-use Rattle.read_inventory.specs.declared.decode.Marked.{Marked}
-use Rattle.read_inventory.specs.declared.decode.Marked.TheVariants as MarkedVariants
 use Rattle.read_inventory.proofs.Decoding.{decoded_marks}
 
 -- ---- a mark
@@ -51,34 +49,34 @@ module _ (t : Summary) (inv sp : List ℕ) (r : ℕ) (m : Mark) (e : mark_of_ran
   unfolding residual
   residue_low = omega (arith, mark_of.3, mod-le (r % 2 ^ L t.plan) (2 ^ quantum_at t inv (entry_of_rank t r)), mod-le r (2 ^ L t.plan))
 
--- o is rank r's mark as it was read
-pub record MarkRead (t : Summary) (inv sp : List ℕ) (r : ℕ) (o : Marked) : Type 0 where
-  pub told : marked o ≡ mark_of_rank t inv sp r
+-- m is rank r's mark as it was read
+pub record MarkRead (t : Summary) (inv sp : List ℕ) (r : ℕ) (m : Mark) : Type 0 where
+  pub told : answer m ≡ mark_of_rank t inv sp r
 
-module _ {t : Summary} {inv sp : List ℕ} {r : ℕ} {o : Marked} (w : MarkRead t inv sp r o) where
-  pub position_by : (ws : List ℕ)
-      → and_then (marked o) (finish (selected t.plan.polarity ws t.plan.len) t.plan.len) ≡ position_of ws t inv sp r
+module _ {t : Summary} {inv sp : List ℕ} {r : ℕ} {m : Mark} (w : MarkRead t inv sp r m) where
+  pub position_by : (ws : List ℕ) → finish (selected t.plan.polarity ws t.plan.len) t.plan.len m ≡ position_of ws t inv sp r
   unfolding position_of
   position_by ws = ap (λ (x : Outcome Mark). and_then x (finish (selected t.plan.polarity ws t.plan.len) t.plan.len)) w.told
 
-  pub hint_at_lem : (p k : ℕ) (b : Bool) → o ≡ MarkedVariants.At p k b
-      → answer (record { mark = sample_at t.origin p; rank = r - k }) ≡ hint_sample t inv sp r
+  pub hint_by : answer (record { mark = sample_at t.origin m.at; rank = r - m.residual }) ≡ hint_sample t inv sp r
   unfolding hint_at hint_sample
-  hint_at_lem p k b e = rw (← w.told, e)
+  hint_by = rw (← w.told)
 
-  pub hint_none : o ≡ MarkedVariants.Refused → refused 10 ≡ hint_sample t inv sp r
+  pub mark_below : m.at < t.plan.len
+  mark_below = mark_low t inv sp r m (sym w.told)
+
+  pub passes_few : m.residual ≤ r
+  passes_few = residue_low t inv sp r m (sym w.told)
+
+-- a mark that is refused
+module _ (t : Summary) (inv sp : List ℕ) (r k : ℕ) (e : refused k ≡ mark_of_rank t inv sp r) where
+  pub position_none : (ws : List ℕ) → refused k ≡ position_of ws t inv sp r
+  unfolding position_of
+  position_none ws = ap (λ (x : Outcome Mark). and_then x (finish (selected t.plan.polarity ws t.plan.len) t.plan.len)) e
+
+  pub hint_none : refused k ≡ hint_sample t inv sp r
   unfolding hint_at hint_sample
-  hint_none e = rw (← w.told, e)
-
-  pub mark_below : (p k : ℕ) (b : Bool) → o ≡ MarkedVariants.At p k b → p < t.plan.len
-  mark_below p k b e = mark_low t inv sp r (record { at = p; residual = k; exact = b }) (sym w.told ∙ ap marked e)
-
-  pub passes_few : (p k : ℕ) (b : Bool) → o ≡ MarkedVariants.At p k b → k ≤ r
-  passes_few p k b e = residue_low t inv sp r (record { at = p; residual = k; exact = b }) (sym w.told ∙ ap marked e)
-
-pub low_by : {t : Summary} {inv sp : List ℕ} {r : ℕ} {o : Marked} → MarkRead t inv sp r o → MarkLow t.plan o
-low_by {t} {inv} {sp} {r} {o = MarkedVariants.At p k b} w = mark_low t inv sp r (record { at = p; residual = k; exact = b }) (sym w.told)
-low_by {t} {inv} {sp} {r} {o = MarkedVariants.Refused} w = tt
+  hint_none = rw (← e)
 
 -- ---- a position, and its sample number
 module _ (ws : List ℕ) (t : Summary) (inv sp : List ℕ) (r : ℕ) where
@@ -101,9 +99,9 @@ module _ (ws : List ℕ) (t : Summary) (inv sp : List ℕ) (r : ℕ) where
           let s = answer_sought f (len - m.at) m.at m.residual p 10 d in
           omega (arith, s.high)
 
-  pub sample_stops : (o : Outcome ℕ) (n : ℕ) → o ≡ position_of ws t inv sp r → o ≡ refused n → o ≡ sample_of ws t inv sp r
+  pub sample_stops : (n : ℕ) → refused n ≡ position_of ws t inv sp r → refused n ≡ sample_of ws t inv sp r
   unfolding sample_of
-  sample_stops o n e d = rw (← e, d)
+  sample_stops n e = rw (← e)
 
   pub sample_is : (p : ℕ) → answer p ≡ position_of ws t inv sp r → answer (sample_at t.origin p) ≡ sample_of ws t inv sp r
   unfolding sample_of
@@ -111,14 +109,14 @@ module _ (ws : List ℕ) (t : Summary) (inv sp : List ℕ) (r : ℕ) where
 
 -- ---- the positions of two ranks
 module _ (ws : List ℕ) (t : Summary) (inv sp : List ℕ) (a b : ℕ) where
-  pub dwell_stops : (o : Outcome ℕ) (n : ℕ) → o ≡ position_of ws t inv sp a → o ≡ refused n → o ≡ dwell_at ws t inv sp a b
+  pub dwell_stops : (n : ℕ) → refused n ≡ position_of ws t inv sp a → refused n ≡ dwell_at ws t inv sp a b
   unfolding dwell_at
-  dwell_stops o n e f = rw (← e, f)
+  dwell_stops n e = rw (← e)
 
-  pub dwell_stops_late : (p : ℕ) (o : Outcome ℕ) (n : ℕ) → answer p ≡ position_of ws t inv sp a → o ≡ position_of ws t inv sp b
-      → o ≡ refused n → o ≡ dwell_at ws t inv sp a b
+  pub dwell_stops_late : (p n : ℕ) → answer p ≡ position_of ws t inv sp a → refused n ≡ position_of ws t inv sp b
+      → refused n ≡ dwell_at ws t inv sp a b
   unfolding dwell_at
-  dwell_stops_late p o n ea eb f = rw (← ea, ← eb, f)
+  dwell_stops_late p n ea eb = rw (← ea, ← eb)
 
   pub dwell_both : (p q : ℕ) → answer p ≡ position_of ws t inv sp a → answer q ≡ position_of ws t inv sp b
       → dwell_by p q ≡ dwell_at ws t inv sp a b
@@ -179,9 +177,8 @@ module _ (t : Summary) (inv sp : List ℕ) (r : ℕ) where
   unfolding hint_at hint_sample
   hint_decoded d e = rw (← decoded_marks t inv sp r (answer d) (sym e))
 
-  pub hint_undecoded : decode_of t inv sp r ≡ refused 10 → hint_sample t inv sp r ≡ refused 10
-  unfolding hint_at hint_sample
-  hint_undecoded e = rw (← decoded_marks t inv sp r (refused 10) (sym e))
+  pub hint_undecoded : (k : ℕ) → refused k ≡ decode_of t inv sp r → refused k ≡ hint_sample t inv sp r
+  hint_undecoded k e = hint_none t inv sp r k (decoded_marks t inv sp r (refused k) e)
 
   -- and the mark by the hint
   pub hint_back : (h : Hint) → hint_at t inv sp r ≡ answer h → mark_at t inv sp (entry_of_rank t r) (mark_number t inv r) ≡ answer h.mark

@@ -1,16 +1,15 @@
 -- Steps 2 to 6 as one decoding: an entry's cells lie in the inventory, and each return of `decode` is what is defined.
-use mathlib.Core.Bool.{Bool, true, false}
+use mathlib.Core.Bool.{false}
 use mathlib.Core.List.{List}
 use mathlib.Core.Path.{◌≡◌, refl, sym, ap, ◌∙◌}
 use Prim.Native.Nat.{ℕ, ◌+◌, ◌*◌, ◌/◌, ◌%◌, ◌^◌, ◌≤◌, ◌<◌}
 use native.Mathlib.Nat.{add-zero, sub-zero, lt_of_lt_of_le, mod-lt, mul-le-mul_right}
 use native.Mathlib.Omega.{arith}
-use lib.Dec.{leb}
 use lib.ListN.{length, get_or}
 use lib.Pow.{pow_pos, pow_mono, pow-add, shr_lt}
 use borrow.Author.Tests.{le-leb, lt-leb}
-use Rattle.rank_sel.specs.Outcome.{Outcome, answer, refused, refuse_if, and_then}
-use Rattle.rank_sel.proofs.Outcome.{answer_is, not_refused, refused_holds, then_then}
+use Rattle.rank_sel.specs.Outcome.{Outcome, answer, refused, and_then}
+use Rattle.rank_sel.proofs.Outcome.{answer_is, not_refused, refused_holds, then_answer, then_refused, then_then}
 use Rattle.spacing.specs.Spacing.{L, M, S}
 use Rattle.inventory.specs.Index.{stride, inventory_len_of}
 use Rattle.inventory.specs.Lanes.{lane_of}
@@ -21,12 +20,12 @@ use Rattle.inventory.specs.declared.summary.Summary.{Summary}
 use Rattle.inventory.proofs.Marks.{quantum_le}
 use Rattle.inventory.proofs.Ranks.{rank_entry}
 use Rattle.inventory.proofs.Shapes.{shaped}
-use Rattle.read_inventory.specs.Read.{tagged, kind_at, span_at, quantum_at, shape_at, Place, start, own, over, place_at, number_at, span_too_small, mark_at, entry_of_rank, mark_number, residual, mark_of_rank}
-use Rattle.read_inventory.specs.Steps.{head_of, EntryLent, HeadIn, is_over, numbered, number_of_mark, spacing_at, decoded_by, decode_of, mark_by}
+use Rattle.read_inventory.specs.Read.{tagged, kind_at, span_at, quantum_at, shape_at, Place, place_at, number_at, span_too_small, mark_at, entry_of_rank, mark_number, residual, mark_of_rank}
+use Rattle.read_inventory.specs.Steps.{head_of, EntryLent, HeadIn, is_over, number_of_mark, spacing_at, decoded_by, decode_of, mark_by}
 use Rattle.read_inventory.specs.Tests.{Readable}
 use Rattle.read_inventory.specs.declared.decode.Decoded.{Decoded}
 use Rattle.read_inventory.specs.declared.decode.Head.{Head}
-use Rattle.read_inventory.specs.declared.decode.Number.TheVariants.{Is, Missing}
+use Rattle.read_inventory.specs.declared.decode.Number.{Number}
 use Rattle.read_inventory.specs.declared.decode.Spot.TheVariants.{Own}
 use Rattle.read_inventory.proofs.Reading.{tagged_16, spot_own, head_read, kind_as, spacing_16, Spotted, own_in, number_own}
 
@@ -39,6 +38,9 @@ entry_lent t inv sp r a = record {
       let l = mul-le-mul_right (stride t.plan) (rank_entry t.plan r a.below) in
       omega (arith, l, a.lawful.counted, a.held.own);
 }
+
+refused_is : {m n : ℕ} → ◌≡◌ {A = Outcome ℕ} (refused m) (refused n) → m ≡ n
+refused_is e = cc
 
 -- ---- what is decoded says the mark
 module _ (t : Summary) (inv sp : List ℕ) (r : ℕ) where
@@ -53,22 +55,6 @@ pub quantum_at_low : (t : Summary) (inv : List ℕ) (e : ℕ) → quantum_at t i
 unfolding quantum_at
 quantum_at_low t inv e = quantum_le (kind_at t inv e) (span_at t inv e) (S t.plan)
 
--- ---- the number
-over_none : (p : Place) (b : Bool) (n : ℕ) → Missing ≡ numbered p (refuse_if b 10 (answer n)) → refuse_if b 10 (answer n) ≡ refused 10
-over_none p true n e = refl
-over_none p false n e = let z : ◌≡◌ {A = ℕ} 0 1 = cc in absurd (omega arith)
-
-number_some : (p : Place) (o : Outcome ℕ) (n : ℕ) (b : Bool) → Is n b ≡ numbered p o → (o ≡ answer n) × (b ≡ is_over p)
-number_some p (answer m) n b e = (cc, cc)
-number_some p (refused k) n b e = let z : ◌≡◌ {A = ℕ} 0 1 = cc in absurd (omega arith)
-
-module _ (t : Summary) (inv sp : List ℕ) (e : ℕ) where
-  number_none : (p : Place) → Missing ≡ numbered p (number_at t inv sp e p) → number_at t inv sp e p ≡ refused 10
-  unfolding number_at
-  number_none start h = let z : ◌≡◌ {A = ℕ} 0 1 = cc in absurd (omega arith)
-  number_none (own c j) h = let z : ◌≡◌ {A = ℕ} 0 1 = cc in absurd (omega arith)
-  number_none (over c j) h = over_none (over c j) (leb t.spill_len c) (lane_of (shape_at t inv e).width (get_or sp c 0) j) h
-
 -- ---- the returns
 -- h is the head of r's entry
 pub record Headed (t : Summary) (inv sp : List ℕ) (r : ℕ) (h : Head) : Type 0 where
@@ -81,10 +67,14 @@ pub record Divided (t : Summary) (inv sp : List ℕ) (r : ℕ) (h : Head) (q sub
   pub spacing : answer q ≡ spacing_at t inv h.entry
   pub subrank : sub ≡ r % 2 ^ L t.plan
 
--- n is the number of r's mark, b says whether it is spilled, and s is the entry's shape
-pub record Numbered (t : Summary) (inv sp : List ℕ) (r : ℕ) (h : Head) (q sub n : ℕ) (b : Bool) (s : Shape) : Type 0 where
+-- the number n at a place
+abbrev number_there : Place → ℕ → Number
+number_there p n = record { value = n; spilled = is_over p }
+
+-- n is the number of r's mark, and s is the entry's shape
+pub record Numbered (t : Summary) (inv sp : List ℕ) (r : ℕ) (h : Head) (q sub : ℕ) (n : Number) (s : Shape) : Type 0 where
   pub divided : Divided t inv sp r h q sub
-  pub number : Is n b ≡ number_of_mark t inv sp h.entry (sub / 2 ^ q)
+  pub number : answer n ≡ number_of_mark t inv sp h.entry (sub / 2 ^ q)
   pub shape : s ≡ shape_of h.kind h.start
 
 module _ {t : Summary} {inv sp : List ℕ} {r : ℕ} {h : Head} (w : Headed t inv sp r h) where
@@ -97,11 +87,12 @@ module _ {t : Summary} {inv sp : List ℕ} {r : ℕ} {h : Head} (w : Headed t in
     read = w.read ∙ ap (λ (e : ℕ). head_of t inv e) (sym entry_is);
   }
 
-  pub reading_small : refused 10 ≡ spacing_at t inv h.entry → refused 10 ≡ decode_of t inv sp r
+  pub reading_small : (k : ℕ) → refused k ≡ spacing_at t inv h.entry → refused k ≡ decode_of t inv sp r
   unfolding decode_of mark_at spacing_at
-  reading_small f =
-      let b = refused_holds (span_too_small (kind_at t inv h.entry) (span_at t inv h.entry)) 10 (quantum_at t inv h.entry) 10 (sym f) in
-      simp (rw entry_is at b)
+  reading_small k f =
+      let b = refused_holds (span_too_small (kind_at t inv h.entry) (span_at t inv h.entry)) 10 (quantum_at t inv h.entry) k (sym f) in
+      let d : k ≡ 10 = refused_is (f ∙ rw b) in
+      simp (d, rw entry_is at b)
 
 module _ {t : Summary} {inv sp : List ℕ} {r : ℕ} {h : Head} {q sub : ℕ} (w : Divided t inv sp r h q sub) where
   spaced_is : (span_too_small (kind_at t inv (entry_of_rank t r)) (span_at t inv (entry_of_rank t r)) ≡ false) × (q ≡ quantum_at t inv (entry_of_rank t r))
@@ -121,37 +112,41 @@ module _ {t : Summary} {inv sp : List ℕ} {r : ℕ} {h : Head} {q sub : ℕ} (w
   unfolding mark_number
   number_is = simp (w.subrank, spaced_is.1)
 
-  pub reading_none : Missing ≡ number_of_mark t inv sp h.entry (sub / 2 ^ q) → refused 10 ≡ decode_of t inv sp r
+  pub reading_none : (k : ℕ) → refused k ≡ number_of_mark t inv sp h.entry (sub / 2 ^ q) → refused k ≡ decode_of t inv sp r
   unfolding decode_of mark_at
-  reading_none f =
-      let g = number_none t inv sp (entry_of_rank t r) (place_at t inv (entry_of_rank t r) (mark_number t inv r))
-      (rw (entry_is w.head, number_is) at f) in
+  reading_none k f =
+      let p = place_at t inv (entry_of_rank t r) (mark_number t inv r) in
+      let g = (then_refused (number_at t inv sp (entry_of_rank t r) p) (number_there p) k).0 (sym (rw (entry_is w.head, number_is) at f)) in
       simp (spaced_is.0, g)
 
-module _ {t : Summary} {inv sp : List ℕ} {r : ℕ} {h : Head} {q sub n : ℕ} {b : Bool} {s : Shape} (w : Numbered t inv sp r h q sub n b s) where
-  found : (number_at t inv sp (entry_of_rank t r) (place_at t inv (entry_of_rank t r) (mark_number t inv r)) ≡ answer n) × (b ≡ is_over (place_at t inv (entry_of_rank t r) (mark_number t inv r)))
+module _ {t : Summary} {inv sp : List ℕ} {r : ℕ} {h : Head} {q sub : ℕ} {n : Number} {s : Shape} (w : Numbered t inv sp r h q sub n s) where
+  abbrev place : Place
+  place = place_at t inv (entry_of_rank t r) (mark_number t inv r)
+
+  found : (number_at t inv sp (entry_of_rank t r) place ≡ answer n.value) × (n.spilled ≡ is_over place)
   found =
-      number_some (place_at t inv (entry_of_rank t r) (mark_number t inv r))
-      (number_at t inv sp (entry_of_rank t r) (place_at t inv (entry_of_rank t r) (mark_number t inv r))) n b
-      (rw (entry_is w.divided.head, number_is w.divided) at w.number)
+      let f = rw (entry_is w.divided.head, number_is w.divided) at w.number in
+      let a = then_answer (number_at t inv sp (entry_of_rank t r) place) (λ m. answer (number_there place m)) n (sym f) in
+      let d = answer_is a.2 in
+      (a.1 ∙ ap (λ (x : Number). answer x.value) d, sym (ap (λ (x : Number). x.spilled) d))
 
   shape_is : s ≡ shape_at t inv (entry_of_rank t r)
   unfolding shape_at
   shape_is = w.shape ∙ ap (λ (x : Head). shape_of x.kind x.start) w.divided.head.read
 
-  pub reading_past : t.plan.len ≤ s.base + n → refused 10 ≡ decode_of t inv sp r
+  pub reading_past : t.plan.len ≤ s.base + n.value → refused 10 ≡ decode_of t inv sp r
   unfolding decode_of mark_at
-  reading_past l = simp ((spaced_is w.divided).0, found.0, ← shape_is, le-leb t.plan.len (s.base + n) l)
+  reading_past l = simp ((spaced_is w.divided).0, found.0, ← shape_is, le-leb t.plan.len (s.base + n.value) l)
 
-  pub reading_is : s.base + n < t.plan.len → (res : ℕ) → res ≡ sub % 2 ^ q
-      → answer (record { head = h; log2_quantum = q; mark = s.base + n; residual = res; spilled = b }) ≡ decode_of t inv sp r
+  pub reading_is : s.base + n.value < t.plan.len → (res : ℕ) → res ≡ sub % 2 ^ q
+      → answer (record { head = h; log2_quantum = q; mark = s.base + n.value; residual = res; spilled = n.spilled }) ≡ decode_of t inv sp r
   unfolding decode_of mark_at residual
   reading_is l res er =
       simp (
         (spaced_is w.divided).0,
         found.0,
         ← shape_is,
-        lt-leb t.plan.len (s.base + n) l,
+        lt-leb t.plan.len (s.base + n.value) l,
         er,
         w.divided.subrank,
         w.divided.head.read,
@@ -200,7 +195,8 @@ module _ {t : Summary} {inv sp : List ℕ} {r c sub : ℕ} (w : Quartered t inv 
     unfolding lane_of
     quarter_fits = omega (arith, en, tagged_16 (get_or inv c 0 / 2 ^ 62) (sym w.kind))
 
-    quarter_number : Numbered t inv sp r (head_u16 inv (entry_of_rank t r) c) (S t.plan) sub n false (shape_of U16 (get_or inv c 0))
+    quarter_number : Numbered t inv sp r (head_u16 inv (entry_of_rank t r) c) (S t.plan) sub (record { value = n; spilled = false })
+        (shape_of U16 (get_or inv c 0))
     quarter_number = record {
       divided = record {
         head = quarter_head;

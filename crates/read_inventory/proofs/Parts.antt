@@ -9,17 +9,20 @@ use native.Mathlib.Omega.{arith}
 use lib.ListN.{length, get_or, take, drop}
 use lib.Pow.{pow_pos}
 use Rattle.rank_sel.specs.Numbers.{ceil_div}
-use Rattle.rank_sel.specs.Outcome.{answer, refused}
+use Rattle.std.specs.Prelude.{Result, Ok, Err, IsErr, IsErrAnd}
+use Rattle.rank_sel.specs.Outcome.{Outcome, answer, refused, number_of}
+use Rattle.rank_sel.specs.declared.Refusal.{Refusal}
 use Rattle.spacing.specs.Spacing.{L, M}
 use Rattle.inventory.specs.Index.{stride, ranks_of}
 use Rattle.inventory.specs.Shape.{spilled_by}
 use Rattle.inventory.specs.declared.summary.Summary.{Summary}
-use Rattle.read_inventory.specs.Jump.{hint_of, of_inventory, of_spill, part_by, store_of}
+use Rattle.read_inventory.specs.Jump.{hint_of, Part, of_inventory, of_spill, part_by, store_of, or_empty, stored, PartIn}
 use Rattle.read_inventory.specs.Read.{cell_at, quantum_at, Place, start, own, over, place_at, spilled_at, entry_of_rank, mark_number, Hint}
 use Rattle.read_inventory.specs.Steps.{Countable, head_of, is_over}
 use Rattle.read_inventory.specs.Tests.{Readable}
 use Rattle.read_inventory.specs.declared.decode.Decoded.{Decoded}
 use Rattle.read_inventory.specs.declared.decode.Head.{Head}
+use Rattle.read_inventory.specs.declared.jump.CellPart.{CellPart}
 use Rattle.read_inventory.proofs.Answers.{ReadAs, over_low}
 use Rattle.read_inventory.proofs.Decoding.{entry_lent, quantum_at_low}
 
@@ -41,6 +44,11 @@ pub store_refused : (ws : List ℕ) (t : Summary) (inv sp : List ℕ) (r n : ℕ
     → refused n ≡ store_of ws t inv sp r
 unfolding store_of
 store_refused ws t inv sp r n e = rw (← e)
+
+pub stored_refused : (x : Result CellPart Refusal) (e : Refusal) → IsErr x × IsErrAnd x (λ y. y ≡ e) → (o : Outcome Part)
+    → refused (number_of e) ≡ o → (inv sp : List ℕ) → (stored x ≡ o) × PartIn inv sp (or_empty (stored x))
+stored_refused (Err y) e h o eo inv sp = (ap (λ (z : Refusal). refused (number_of z)) h.1 ∙ eo, tt)
+stored_refused (Ok b) e h o eo inv sp = absurd h.1
 
 -- hint answers, and d is what was decoded
 pub record Stored (ws : List ℕ) (t : Summary) (inv sp : List ℕ) (r : ℕ) (d : Decoded) : Type 0 where

@@ -1,13 +1,12 @@
 -- What passing the tests of a call shows, test by test, and that what they ask for passes them.
 use mathlib.Core.List.{List, ◌++◌}
-use mathlib.Core.Path.{◌≡◌}
+use mathlib.Core.Path.{◌≡◌, sym, ap, ◌∙◌}
 use Prim.Native.Nat.{ℕ, ◌<◌}
 use borrow.Author.Tests.{leb-false}
-use Rattle.rank_sel.specs.Outcome.{refused, number_of, test_by, NoneOf, tested, reason_of}
+use Rattle.std.specs.Prelude.{Result, Ok, Err, IsErr, IsErrAnd}
+use Rattle.rank_sel.specs.Outcome.{Outcome, answer, refused, number_of, test_by, NoneOf, and_then, outcome}
 use Rattle.rank_sel.specs.declared.Refusal.{Refusal}
-use Rattle.rank_sel.specs.declared.Tested.{Tested}
-use Rattle.rank_sel.specs.declared.Tested.TheVariants.{Passed, Refused}
-use Rattle.rank_sel.proofs.Outcome.{none_split, none_join, Tells, passed_none, passed_then, stopped_then}
+use Rattle.rank_sel.proofs.Outcome.{none_split, none_join, tests_then, passed_none, passed_then}
 use Rattle.bit_record.specs.Record.{of_record_from, AdmittedFrom}
 use Rattle.bit_record.proofs.Counted.{admitted_from, admitted_from_none}
 use Rattle.spacing.specs.Spacing.{N}
@@ -45,6 +44,12 @@ module _ (ws : List ℕ) (t : Summary) (inv sp : List ℕ) where
   readable i r l = record { short = i.from.admitted.short; lawful = i.lawful; held = i.held; below = l }
 
   -- an index and a rank
+  pub hint_stopped : (r k : ℕ) → refused k ≡ test_by (of_index ws t inv sp ++ of_rank (N t.plan) r) → refused k ≡ hint_of ws t inv sp r
+  unfolding hint_of
+  hint_stopped r k e =
+      ap (λ (o : Outcome (Unit {0})). and_then o (λ u. hint_sample t inv sp r)) e
+      ∙ sym (tests_then (of_index ws t inv sp ++ of_rank (N t.plan) r) (hint_sample t inv sp r))
+
   module _ (r : ℕ) (h : NoneOf (of_index ws t inv sp ++ of_rank (N t.plan) r)) where
     pub call_held : IndexHeld ws t inv sp
     call_held = index_held (none_split (of_index ws t inv sp) (of_rank (N t.plan) r) h).0
@@ -52,61 +57,52 @@ module _ (ws : List ℕ) (t : Summary) (inv sp : List ℕ) where
     pub call_readable : Readable t inv sp r
     call_readable = readable call_held r (leb-false (N t.plan) r (none_split (of_index ws t inv sp) (of_rank (N t.plan) r) h).1.0)
 
--- ---- an index and a rank: x is what their tests found
-pub record Called (ws : List ℕ) (t : Summary) (inv sp : List ℕ) (r : ℕ) (x : Tested) : Type 0 where
-  pub told : tested x ≡ test_by (of_index ws t inv sp ++ of_rank (N t.plan) r)
+-- ---- an index and a rank that passed the tests
+pub record Called (ws : List ℕ) (t : Summary) (inv sp : List ℕ) (r : ℕ) : Type 0 where
+  pub passed : answer tt ≡ test_by (of_index ws t inv sp ++ of_rank (N t.plan) r)
 
-module _ {ws : List ℕ} {t : Summary} {inv sp : List ℕ} {r : ℕ} {x : Tested} (w : Called ws t inv sp r x) where
-  tells : Tells (of_index ws t inv sp ++ of_rank (N t.plan) r) x
-  tells = record { told = w.told }
+module _ {ws : List ℕ} {t : Summary} {inv sp : List ℕ} {r : ℕ} (w : Called ws t inv sp r) where
+  none : NoneOf (of_index ws t inv sp ++ of_rank (N t.plan) r)
+  none = passed_none (of_index ws t inv sp ++ of_rank (N t.plan) r) w.passed
 
-  pub called_held : x ≡ Passed → IndexHeld ws t inv sp
-  called_held e = call_held ws t inv sp r (passed_none tells e)
+  pub called_held : IndexHeld ws t inv sp
+  called_held = call_held ws t inv sp r none
 
-  pub called_readable : x ≡ Passed → Readable t inv sp r
-  called_readable e = call_readable ws t inv sp r (passed_none tells e)
+  pub called_readable : Readable t inv sp r
+  called_readable = call_readable ws t inv sp r none
 
-  -- past the tests the entries are what the cells say; else they refuse as the tests do
-  pub select_passed : x ≡ Passed → sample_of ws t inv sp r ≡ select_of ws t inv sp r
+  -- past the tests the entries are what the cells say
+  pub select_passed : sample_of ws t inv sp r ≡ select_of ws t inv sp r
   unfolding select_of
-  select_passed e = passed_then tells e (sample_of ws t inv sp r)
+  select_passed = passed_then (of_index ws t inv sp ++ of_rank (N t.plan) r) w.passed (sample_of ws t inv sp r)
 
-  pub hint_passed : x ≡ Passed → hint_sample t inv sp r ≡ hint_of ws t inv sp r
+  pub hint_passed : hint_sample t inv sp r ≡ hint_of ws t inv sp r
   unfolding hint_of
-  hint_passed e = passed_then tells e (hint_sample t inv sp r)
+  hint_passed = passed_then (of_index ws t inv sp ++ of_rank (N t.plan) r) w.passed (hint_sample t inv sp r)
 
-  pub select_stopped : {q : Refusal} (y : Refusal) → x ≡ Refused q → y ≡ reason_of x → refused (number_of y) ≡ select_of ws t inv sp r
-  unfolding select_of
-  select_stopped y e ey = stopped_then tells y e ey (sample_of ws t inv sp r)
+-- ---- an index and the ranks of a dwell that passed the tests
+pub record DwellCalled (ws : List ℕ) (t : Summary) (inv sp : List ℕ) (a b : ℕ) : Type 0 where
+  pub passed : answer tt ≡ test_by (of_index ws t inv sp ++ of_ranks (N t.plan) a b)
 
-  pub hint_stopped : {q : Refusal} (y : Refusal) → x ≡ Refused q → y ≡ reason_of x → refused (number_of y) ≡ hint_of ws t inv sp r
-  unfolding hint_of
-  hint_stopped y e ey = stopped_then tells y e ey (hint_sample t inv sp r)
+module _ {ws : List ℕ} {t : Summary} {inv sp : List ℕ} {a b : ℕ} (w : DwellCalled ws t inv sp a b) where
+  split : NoneOf (of_index ws t inv sp) × NoneOf (of_ranks (N t.plan) a b)
+  split = none_split (of_index ws t inv sp) (of_ranks (N t.plan) a b) (passed_none (of_index ws t inv sp ++ of_ranks (N t.plan) a b) w.passed)
 
--- ---- an index and the ranks of a dwell
-pub record DwellCalled (ws : List ℕ) (t : Summary) (inv sp : List ℕ) (a b : ℕ) (x : Tested) : Type 0 where
-  pub told : tested x ≡ test_by (of_index ws t inv sp ++ of_ranks (N t.plan) a b)
+  pub dwell_held : IndexHeld ws t inv sp
+  dwell_held = index_held ws t inv sp split.0
 
-module _ {ws : List ℕ} {t : Summary} {inv sp : List ℕ} {a b : ℕ} {x : Tested} (w : DwellCalled ws t inv sp a b x) where
-  dwell_tells : Tells (of_index ws t inv sp ++ of_ranks (N t.plan) a b) x
-  dwell_tells = record { told = w.told }
+  pub dwell_first : Readable t inv sp a
+  dwell_first = readable ws t inv sp dwell_held a (leb-false (N t.plan) a split.1.0)
 
-  split : x ≡ Passed → NoneOf (of_index ws t inv sp) × NoneOf (of_ranks (N t.plan) a b)
-  split e = none_split (of_index ws t inv sp) (of_ranks (N t.plan) a b) (passed_none dwell_tells e)
+  pub dwell_second : Readable t inv sp b
+  dwell_second = readable ws t inv sp dwell_held b (leb-false (N t.plan) b split.1.1.0)
 
-  pub dwell_held : x ≡ Passed → IndexHeld ws t inv sp
-  dwell_held e = index_held ws t inv sp (split e).0
-
-  pub dwell_first : x ≡ Passed → Readable t inv sp a
-  dwell_first e = readable ws t inv sp (dwell_held e) a (leb-false (N t.plan) a (split e).1.0)
-
-  pub dwell_second : x ≡ Passed → Readable t inv sp b
-  dwell_second e = readable ws t inv sp (dwell_held e) b (leb-false (N t.plan) b (split e).1.1.0)
-
-  pub dwell_passed : x ≡ Passed → dwell_at ws t inv sp a b ≡ dwell_of ws t inv sp a b
+  pub dwell_passed : dwell_at ws t inv sp a b ≡ dwell_of ws t inv sp a b
   unfolding dwell_of
-  dwell_passed e = passed_then dwell_tells e (dwell_at ws t inv sp a b)
+  dwell_passed = passed_then (of_index ws t inv sp ++ of_ranks (N t.plan) a b) w.passed (dwell_at ws t inv sp a b)
 
-  pub dwell_stopped : {q : Refusal} (y : Refusal) → x ≡ Refused q → y ≡ reason_of x → refused (number_of y) ≡ dwell_of ws t inv sp a b
-  unfolding dwell_of
-  dwell_stopped y e ey = stopped_then dwell_tells y e ey (dwell_at ws t inv sp a b)
+-- ---- a refusal that `?` hands on
+pub refused_so : {B : Type 0} (r : Result B Refusal) (e : Refusal) → IsErr r × IsErrAnd r (λ x. x ≡ e) → (o : Outcome B)
+    → refused (number_of e) ≡ o → outcome r ≡ o
+refused_so (Err x) e h o eo = ap (λ (z : Refusal). refused (number_of z)) h.1 ∙ eo
+refused_so (Ok b) e h o eo = absurd h.1

@@ -1,13 +1,12 @@
 -- Reading an entry: its tag, the places of its numbers, and their lanes; each value that the code has is the defined one.
 use mathlib.Core.Bool.{true, false}
 use mathlib.Core.List.{List}
-use mathlib.Core.Path.{◌≡◌, refl, sym, ap, ◌∙◌}
+use mathlib.Core.Path.{◌≡◌, sym, ap, ◌∙◌}
 use Prim.Native.Nat.{ℕ, zero, suc, ◌+◌, ◌-◌, ◌*◌, ◌/◌, ◌%◌, ◌^◌, ◌≤◌, ◌<◌}
 use native.Mathlib.Nat.{add-zero, mod-lt, div-lt_iff_lt-mul, mul-le-mul}
 use native.Mathlib.Omega.{arith}
 use lib.ListN.{length, get_or}
 use lib.Bits.{bit_and}
-use lib.Pow.{pow_pos}
 use borrow.Author.Tests.{le-ltb, lt-ltb, le-leb, lt-leb}
 use Rattle.rank_sel.specs.Outcome.{answer, refused}
 use Rattle.select_in_word.proofs.Tail.{mask_shr, and_tail}
@@ -20,31 +19,19 @@ use Rattle.inventory.specs.declared.shape.Shape.{Shape}
 use Rattle.inventory.specs.declared.shape.SpanType.{SpanType}
 use Rattle.inventory.specs.declared.shape.SpanType.TheVariants.{U16, U32, U64}
 use Rattle.inventory.specs.declared.summary.Summary.{Summary}
-use Rattle.inventory.proofs.Shapes.{shaped, lanes_pos, lane_within}
+use Rattle.inventory.proofs.Shapes.{lanes_pos}
 use Rattle.read_inventory.specs.Read.{tagged, start_by, cell_at, kind_at, start_at, span_at, quantum_at, shape_at, place_at, number_at}
-use Rattle.read_inventory.specs.Steps.{head_of, EntryLent, spacing_at, spot_place, spot_in, numbered, SpotFor}
+use Rattle.read_inventory.specs.Steps.{head_of, EntryLent, spacing_at, spot_place, spot_in, number_of_mark, SpotFor}
 use Rattle.read_inventory.specs.declared.decode.Head.{Head}
 use Rattle.read_inventory.specs.declared.decode.Spot.{Spot}
 use Rattle.read_inventory.specs.declared.decode.Spot.TheVariants.{Start, Own, Over}
-use Rattle.read_inventory.specs.declared.decode.Number.TheVariants.{Is, Missing}
 
 -- ---- the tag
-pub tagged_low : (t : ℕ) → t < 2 → tagged t ≡ U16
-tagged_low zero h = refl
-tagged_low (suc zero) h = refl
-tagged_low (suc (suc t)) h = absurd (omega arith)
-
 pub tagged_16 : (t : ℕ) → tagged t ≡ U16 → t < 2
 tagged_16 zero e = omega arith
 tagged_16 (suc zero) e = omega arith
 tagged_16 (suc (suc zero)) e = let z : ◌≡◌ {A = ℕ} 0 1 = cc in absurd (omega arith)
 tagged_16 (suc (suc (suc t))) e = let z : ◌≡◌ {A = ℕ} 0 1 = cc in absurd (omega arith)
-
-pub tagged_high : (t : ℕ) → 2 < t → tagged t ≡ U64
-tagged_high zero h = absurd (omega arith)
-tagged_high (suc zero) h = absurd (omega arith)
-tagged_high (suc (suc zero)) h = absurd (omega arith)
-tagged_high (suc (suc (suc t))) h = refl
 
 -- ---- lanes
 pub lane_masked : (w cell t : ℕ) → 0 < w → w ≤ 64 → bit_and (cell / 2 ^ (w * t)) ((2 ^ 64 - 1) / 2 ^ (64 - w)) ≡ lane_of w cell t
@@ -53,14 +40,8 @@ lane_masked w cell t h l = rw (mask_shr w h l) (and_tail (cell / 2 ^ (w * t)) w 
 
 -- ---- places
 module _ (s : Shape) (m i : ℕ) (h : Shaped s) where
-  pub heads_low : s.heads ≤ 2 ^ m
-  heads_low = omega (arith, h.heads, pow_pos m)
-
   pub near_small : m ≤ max_log2_words → (2 ^ m - s.heads) * s.lanes ≤ 2 ^ max_log2_words * 4
   near_small l = mul-le-mul {n₁ = 2 ^ m - s.heads} {m₁ = s.lanes} {n₂ = 2 ^ max_log2_words} {m₂ = 4} (omega (arith, few_words m l)) h.few
-
-  pub spot_start : i < s.from → SpotFor s m i Start
-  spot_start l = record { place = λ c o. simp (lt-ltb i s.from l); within = tt }
 
   -- p is a power of two as it was reckoned
   module _ (p : ℕ) (ep : p ≡ 2 ^ m) (a : s.from ≤ i) where
@@ -79,15 +60,6 @@ module _ (s : Shape) (m i : ℕ) (h : Shaped s) where
           );
         }
 
-    pub spot_over : s.from + (p - s.heads) * s.lanes ≤ i → (j : ℕ) → j ≡ (i - (s.from + (p - s.heads) * s.lanes)) % 2 ^ s.log2_lanes
-        → SpotFor s m i (Over ((i - (s.from + (p - s.heads) * s.lanes)) / 2 ^ s.log2_lanes) j)
-    spot_over b j ej =
-        let l : near_by s m ≤ i = rw near_is at b in
-        record {
-          place = λ c o. simp (le-ltb i s.from a, le-ltb i (near_by s m) l, ej, h.lanes, near_is);
-          within = omega (arith, mod-lt (i - (s.from + (p - s.heads) * s.lanes)) (lanes_pos h), rw h.lanes at ej);
-        }
-
 -- ---- an entry's first cell and its spacing
 module _ (t : Summary) (inv : List ℕ) (e : ℕ) where
   pub head_read : (c : ℕ) (kind : SpanType) (start : ℕ) → c ≡ e * stride t.plan → kind ≡ tagged (get_or inv c 0 / 2 ^ 62)
@@ -97,12 +69,6 @@ module _ (t : Summary) (inv : List ℕ) (e : ℕ) where
 
   pub kind_as : (h : Head) (k : SpanType) → h ≡ head_of t inv e → h.kind ≡ k → kind_at t inv e ≡ k
   kind_as h k eh ek = sym (ap (λ (x : Head). x.kind) eh) ∙ ek
-
-  pub next_in : (h : Head) (p : ℕ) → h ≡ head_of t inv e → p ≡ stride t.plan → EntryLent t inv e → h.cell + p < length inv
-  next_in h p eh ep i = simp (ep, eh) i.within
-
-  pub second_in : (h : Head) → h ≡ head_of t inv e → EntryLent t inv e → h.cell + 1 < length inv
-  second_in h eh i = omega (arith, ap (λ (x : Head). x.cell) eh, i.within, pow_pos (M t.plan))
 
   pub span_read : (h : Head) (p span : ℕ) → h ≡ head_of t inv e → p ≡ stride t.plan → span ≡ get_or inv (h.cell + p) 0 % 2 ^ 62 - h.start
       → span ≡ span_at t inv e
@@ -155,33 +121,24 @@ module _ {t : Summary} {inv : List ℕ} {e i : ℕ} {h : Head} {s : Shape} {p : 
   pub own_in : (n j : ℕ) → p ≡ Own n j → h.cell + 1 + s.heads + n < length inv
   own_in n j eq = omega (arith, cell_is, w.lent.within, (spot_in_lem (Own n j) eq).0)
 
-  lane_in : (j : ℕ) → j < s.lanes → (0 < s.width) × (s.width ≤ 64) × (s.width * j < 64)
-  lane_in = lane_within {s = s} (rw w.shape (shaped h.kind h.start))
-
-  pub own_lane : (n j : ℕ) → p ≡ Own n j → (0 < s.width) × (s.width ≤ 64) × (s.width * j < 64)
-  own_lane n j eq = lane_in j (spot_in_lem (Own n j) eq).1
-
-  pub over_lane : (n j : ℕ) → p ≡ Over n j → (0 < s.width) × (s.width ≤ 64) × (s.width * j < 64)
-  over_lane n j eq = lane_in j (spot_in_lem (Over n j) eq)
-
   pub number_start : (sp : List ℕ) → p ≡ Start
-      → Is h.start false ≡ numbered (place_at t inv e i) (number_at t inv sp e (place_at t inv e i))
+      → answer (record { value = h.start; spilled = false }) ≡ number_of_mark t inv sp e i
   unfolding number_at
   number_start sp eq = simp (place_as Start eq, w.head)
 
   pub number_own : (sp : List ℕ) (n j v : ℕ) → p ≡ Own n j → v ≡ lane_of s.width (get_or inv (h.cell + 1 + s.heads + n) 0) j
-      → Is v false ≡ numbered (place_at t inv e i) (number_at t inv sp e (place_at t inv e i))
+      → answer (record { value = v; spilled = false }) ≡ number_of_mark t inv sp e i
   unfolding number_at
   number_own sp n j v eq ev = simp (place_as (Own n j) eq, ev, shape_is)
 
   pub number_missing : (sp : List ℕ) (n j : ℕ) → p ≡ Over n j → t.spill_len - get_or inv (h.cell + 1) 0 ≤ n
-      → Missing ≡ numbered (place_at t inv e i) (number_at t inv sp e (place_at t inv e i))
+      → refused 10 ≡ number_of_mark t inv sp e i
   unfolding number_at
   number_missing sp n j eq l = simp (place_as (Over n j) eq, le-leb t.spill_len (get_or inv (h.cell + 1) 0 + n) (omega arith))
 
   pub number_over : (sp : List ℕ) (n j v : ℕ) → p ≡ Over n j → n < t.spill_len - get_or inv (h.cell + 1) 0
       → v ≡ lane_of s.width (get_or sp (get_or inv (h.cell + 1) 0 + n) 0) j
-      → Is v true ≡ numbered (place_at t inv e i) (number_at t inv sp e (place_at t inv e i))
+      → answer (record { value = v; spilled = true }) ≡ number_of_mark t inv sp e i
   unfolding number_at
   number_over sp n j v eq l ev =
       simp (place_as (Over n j) eq, lt-leb t.spill_len (get_or inv (h.cell + 1) 0 + n) (omega arith), ev, shape_is)

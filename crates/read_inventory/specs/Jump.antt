@@ -1,7 +1,8 @@
 -- Jump, hint, dwell and store. Document 01, "A jump followed downwards" and "When a call is turned down".
-use Rattle.std.specs.Prelude.{List, [], ◌++◌, ◌≡◌, ℕ, ◌+◌, ◌-◌, ◌*◌, ◌^◌, ◌≤◌, min, ltb, length, take, drop}
+use Rattle.std.specs.Prelude.{List, [], ◌++◌, ◌≡◌, ℕ, ◌+◌, ◌-◌, ◌*◌, ◌^◌, ◌≤◌, min, ltb, length, take, drop, Result}
 use Rattle.std.specs.Borrow.{Bor}
-use Rattle.rank_sel.specs.Outcome.{Outcome, answer, refused, number_of, refuse_if, refuse_by, and_then}
+use Rattle.rank_sel.specs.Outcome.{Outcome, answer, refused, refuse_if, refuse_by, and_then, outcome}
+use Rattle.rank_sel.specs.declared.Refusal.{Refusal}
 use Rattle.bit_record.specs.Record.{sample_at}
 use Rattle.spacing.specs.Spacing.{N, M}
 use Rattle.inventory.specs.Index.{stride}
@@ -10,8 +11,6 @@ use Rattle.read_inventory.specs.Read.{cell_at, spilled_at, Place, start, own, ov
 use Rattle.read_inventory.specs.Tests.{of_index, of_rank, of_ranks}
 use Rattle.read_inventory.specs.declared.jump.CellPart.{CellPart}
 use Rattle.read_inventory.specs.declared.jump.CellPart.TheVariants as CellPartVariants
-use Rattle.read_inventory.specs.declared.jump.Hinted.{Hinted}
-use Rattle.read_inventory.specs.declared.jump.Hinted.TheVariants as HintedVariants
 
 -- ---- jump and hint: positions are read, and sample numbers answered
 -- past the tests
@@ -30,10 +29,6 @@ hint_sample t inv sp r = and_then (hint_at t inv sp r) (λ h. answer (hint_from 
 
 unfoldable pub hint_of : List ℕ → Summary → List ℕ → List ℕ → ℕ → Outcome Hint
 hint_of ws t inv sp r = refuse_by (of_index ws t inv sp ++ of_rank (N t.plan) r) (hint_sample t inv sp r)
-
-abbrev pub hinted : Hinted → Outcome Hint
-hinted (HintedVariants.Mark p r) = answer (record { mark = p; rank = r })
-hinted (HintedVariants.Refused r) = refused (number_of r)
 
 -- ---- dwell
 -- position(b) - position(a), the same from any origin on; a negative one is 10
@@ -74,10 +69,12 @@ or_empty (refused n) = empty
 unfoldable pub subinventory_of : List ℕ → Summary → List ℕ → List ℕ → ℕ → Part
 subinventory_of ws t inv sp r = or_empty (store_of ws t inv sp r)
 
-abbrev pub stored : CellPart → Outcome Part
-stored (CellPartVariants.Inventory c n) = answer (of_inventory c n)
-stored (CellPartVariants.Spill c n) = answer (of_spill c n)
-stored (CellPartVariants.Refused r) = refused (number_of r)
+abbrev pub part_of : CellPart → Part
+part_of (CellPartVariants.Inventory c n) = of_inventory c n
+part_of (CellPartVariants.Spill c n) = of_spill c n
+
+abbrev pub stored : Result CellPart Refusal → Outcome Part
+stored r = and_then (outcome r) (λ p. answer (part_of p))
 
 -- the part's cells are lent
 abbrev pub PartIn : List ℕ → List ℕ → Part → Type 0

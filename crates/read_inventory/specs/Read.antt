@@ -12,6 +12,16 @@ use Rattle.inventory.specs.declared.shape.Shape.{Shape}
 use Rattle.inventory.specs.declared.shape.SpanType.{SpanType}
 use Rattle.inventory.specs.declared.shape.SpanType.TheVariants.{U16, U32, U64}
 use Rattle.inventory.specs.declared.summary.Summary.{Summary}
+use Rattle.read_inventory.specs.declared.decode.Hint as hint
+use Rattle.read_inventory.specs.declared.decode.Mark as mark
+
+-- a mark as it is read: where it stands, the selected bits passed from it on, and whether it is itself the answer
+abbrev pub Mark : Type 0
+Mark = mark.Mark
+
+-- the mark of a rank, and its rank
+abbrev pub Hint : Type 0
+Hint = hint.Hint
 
 -- ---- step 3: an entry's first cell
 -- top two bits 0x: U16; 10: U32; 11: U64
@@ -109,21 +119,10 @@ mark_number t inv r = subrank t r / 2 ^ quantum_at t inv (entry_of_rank t r)
 unfoldable pub residual : Summary → List ℕ → ℕ → ℕ
 residual t inv r = subrank t r % 2 ^ quantum_at t inv (entry_of_rank t r)
 
--- a mark as it is read: where it stands, the selected bits passed from it on, and whether it is itself the answer
-pub record Mark : Type 0 where
-  pub at : ℕ
-  pub residual : ℕ
-  pub exact : Bool
-
 unfoldable pub mark_of_rank : Summary → List ℕ → List ℕ → ℕ → Outcome Mark
 mark_of_rank t inv sp r =
     and_then (mark_at t inv sp (entry_of_rank t r) (mark_number t inv r))
     (λ p. answer (record { at = p; residual = residual t inv r; exact = is_u64 (kind_at t inv (entry_of_rank t r)) }))
-
--- the mark of rank r, and its rank
-pub record Hint : Type 0 where
-  pub mark : ℕ
-  pub rank : ℕ
 
 unfoldable pub hint_at : Summary → List ℕ → List ℕ → ℕ → Outcome Hint
 hint_at t inv sp r = and_then (mark_of_rank t inv sp r) (λ m. answer (record { mark = m.at; rank = r - m.residual }))

@@ -1,6 +1,6 @@
 -- What the values that the reading code hands on stand for, in the words of Read.
 use Rattle.std.specs.Prelude.{Bool, true, false, List, ◌≡◌, ℕ, ◌+◌, ◌*◌, ◌^◌, ◌≤◌, ◌<◌, length}
-use Rattle.rank_sel.specs.Outcome.{Outcome, answer, refused, refuse_if, and_then}
+use Rattle.rank_sel.specs.Outcome.{Outcome, answer, refuse_if, and_then}
 use Rattle.spacing.specs.Spacing.{max_log2_words, N, L, M}
 use Rattle.spacing.specs.declared.Parameters.{Parameters}
 use Rattle.inventory.specs.Index.{stride}
@@ -8,15 +8,8 @@ use Rattle.inventory.specs.declared.shape.Shape.{Shape}
 use Rattle.inventory.specs.declared.summary.Summary.{Summary}
 use Rattle.read_inventory.specs.Read.{kind_at, start_at, span_at, quantum_at, Place, start, own, over, place_by, place_at, number_at, span_too_small, mark_at, entry_of_rank, mark_number, residual, is_u64, Mark}
 use Rattle.read_inventory.specs.declared.decode.Decoded.{Decoded}
-use Rattle.read_inventory.specs.declared.decode.Decoding.{Decoding}
-use Rattle.read_inventory.specs.declared.decode.Decoding.TheVariants as DecodingVariants
 use Rattle.read_inventory.specs.declared.decode.Head.{Head}
-use Rattle.read_inventory.specs.declared.decode.Marked.{Marked}
-use Rattle.read_inventory.specs.declared.decode.Marked.TheVariants as MarkedVariants
 use Rattle.read_inventory.specs.declared.decode.Number.{Number}
-use Rattle.read_inventory.specs.declared.decode.Number.TheVariants as NumberVariants
-use Rattle.read_inventory.specs.declared.decode.Quantum.{Quantum}
-use Rattle.read_inventory.specs.declared.decode.Quantum.TheVariants as QuantumVariants
 use Rattle.read_inventory.specs.declared.decode.Spot.{Spot}
 use Rattle.read_inventory.specs.declared.decode.Spot.TheVariants as SpotVariants
 
@@ -37,10 +30,6 @@ pub record HeadIn (t : Summary) (inv : List ℕ) (h : Head) : Type 0 where
 -- q, or 10
 unfoldable pub spacing_at : Summary → List ℕ → ℕ → Outcome ℕ
 spacing_at t inv e = refuse_if (span_too_small (kind_at t inv e) (span_at t inv e)) 10 (answer (quantum_at t inv e))
-
-abbrev pub quantum : Quantum → Outcome ℕ
-quantum (QuantumVariants.Log2 q) = answer q
-quantum QuantumVariants.TooSmall = refused 10
 
 -- ---- steps 4 to 6
 -- a spot counts its cell from the first that holds lanes: the entry's own from c on, its spilled ones from o on
@@ -64,13 +53,10 @@ is_over start = false
 is_over (own c j) = false
 is_over (over c j) = true
 
-abbrev pub numbered : Place → Outcome ℕ → Number
-numbered p (answer n) = NumberVariants.Is n (is_over p)
-numbered p (refused k) = NumberVariants.Missing
-
 -- the number of mark i of entry e, and whether it is spilled
-abbrev pub number_of_mark : Summary → List ℕ → List ℕ → ℕ → ℕ → Number
-number_of_mark t inv sp e i = numbered (place_at t inv e i) (number_at t inv sp e (place_at t inv e i))
+abbrev pub number_of_mark : Summary → List ℕ → List ℕ → ℕ → ℕ → Outcome Number
+number_of_mark t inv sp e i =
+    and_then (number_at t inv sp e (place_at t inv e i)) (λ n. answer (record { value = n; spilled = is_over (place_at t inv e i) }))
 
 -- ---- steps 2 to 6
 -- what is decoded of rank r, whose mark is p
@@ -86,22 +72,9 @@ decoded_by t inv r p = record {
 unfoldable pub decode_of : Summary → List ℕ → List ℕ → ℕ → Outcome Decoded
 decode_of t inv sp r = and_then (mark_at t inv sp (entry_of_rank t r) (mark_number t inv r)) (λ p. answer (decoded_by t inv r p))
 
-abbrev pub decoded : Decoding → Outcome Decoded
-decoded (DecodingVariants.Mark d) = answer d
-decoded DecodingVariants.Refused = refused 10
-
 -- what is decoded says the mark too
 abbrev pub mark_by : Decoded → Mark
 mark_by d = record { at = d.mark; residual = d.residual; exact = is_u64 d.head.kind }
-
-abbrev pub marked : Marked → Outcome Mark
-marked (MarkedVariants.At p k b) = answer (record { at = p; residual = k; exact = b })
-marked MarkedVariants.Refused = refused 10
-
--- a mark below len
-abbrev pub MarkLow : Parameters → Marked → Type 0
-MarkLow p (MarkedVariants.At m k b) = m < p.len
-MarkLow p MarkedVariants.Refused = Unit {0}
 
 -- what counting an entry's spilled cells asks of a plan and of what was decoded
 pub record Countable (p : Parameters) (d : Decoded) : Type 0 where

@@ -1,16 +1,16 @@
 // Steps 2 to 6 on any cells: tag, start, place, number and mark.
 ghost use Rattle.std.specs.Prelude.{◌≡◌, ◌+◌, ◌*◌, ◌/◌, ◌%◌, ◌^◌, ◌≤◌, ◌<◌, length, get_or};
-ghost use Rattle.rank_sel.specs.Outcome.{and_then, answer};
+ghost use Rattle.rank_sel.specs.Outcome.{outcome};
 ghost use Rattle.spacing.specs.Spacing.{max_log2_words};
 ghost use Rattle.inventory.specs.Index.{stride};
 ghost use Rattle.inventory.specs.Lanes.{lane_of};
 ghost use Rattle.inventory.specs.Shape.{Shaped};
 ghost use Rattle.read_inventory.specs.Read.{mark_of_rank, span_at, start_by, tagged};
-ghost use Rattle.read_inventory.specs.Steps.{EntryLent, HeadIn, SpotFor, decode_of, decoded, head_of, mark_by, marked, number_of_mark, quantum, spacing_at};
+ghost use Rattle.read_inventory.specs.Steps.{EntryLent, HeadIn, SpotFor, decode_of, head_of, mark_by, number_of_mark, spacing_at};
 ghost use Rattle.read_inventory.specs.Tests.{Readable};
 
 use inventory::{Shape, SpanType, Summary, entry_len, log2_ones_per_sub32, shape_of};
-use rank_sel::{pow2, saturating_sub};
+use rank_sel::{Refusal, pow2};
 use select_in_word::low_bits;
 use spacing::Parameters;
 
@@ -26,13 +26,6 @@ pub(crate) struct Head {
     pub(crate) start: u64,
 }
 
-// The logarithm of an entry's quantum.
-#[derive(Clone, Copy)]
-enum Quantum {
-    Log2(u32),
-    TooSmall,
-}
-
 // Where a number stands: a cell, counted from the first that holds lanes, and a lane.
 #[derive(Clone, Copy)]
 enum Spot {
@@ -41,11 +34,11 @@ enum Spot {
     Over(u64, u64),
 }
 
-// A number, and whether it is spilled.
+// A number, and whether it is spilled: from which of the two slices it was read, not whether there is one.
 #[derive(Clone, Copy)]
-enum Number {
-    Is(u64, bool),
-    Missing,
+struct Number {
+    value: u64,
+    spilled: bool,
 }
 
 // The mark of a rank, the selected bits to pass from it on, and whether its number is spilled.
@@ -58,17 +51,19 @@ pub(crate) struct Decoded {
     pub(crate) spilled: bool,
 }
 
+// Where the mark of a rank stands, the selected bits to pass from it on, and whether it is itself the answer.
 #[derive(Clone, Copy)]
-pub(crate) enum Decoding {
-    Mark(Decoded),
-    Refused,
+pub struct Mark {
+    pub at: u64,
+    pub residual: u64,
+    pub exact: bool,
 }
 
-// The mark of a rank, the selected bits to pass from it on, and whether it is itself the answer.
-#[derive(Clone, Copy)]
-pub enum Marked {
-    At(u64, u64, bool),
-    Refused,
+// The mark of a rank, and the mark's own rank.
+#[derive(Clone, Copy, Debug, PartialEq, Eq)]
+pub struct Hint {
+    pub mark: u64,
+    pub rank: u64,
 }
 
 fn kind_of(cell: u64) -> SpanType
@@ -89,8 +84,7 @@ fn start_of(kind: SpanType, cell: u64) -> u64
 {
     match kind {
         SpanType::U16 => cell,
-        SpanType::U32 => low_bits(cell, START_BITS),
-        SpanType::U64 => low_bits(cell, START_BITS),
+        SpanType::U32 | SpanType::U64 => low_bits(cell, START_BITS),
     }
 }
 
@@ -123,26 +117,25 @@ fn span_at(summary: Summary, inventory: &[u64], head: Head) -> u64
     ensures { result ≡ span_at summary inventory.now head.entry }
 {
     let next = head.cell + entry_len(summary.plan.log2_words_per_subinventory);
-    saturating_sub(low_bits(inventory[next as usize], START_BITS), head.start)
+    low_bits(inventory[next as usize], START_BITS).saturating_sub(head.start)
 }
 
 // Only a U32 entry's spacing goes by its span: the next entry's cell is read for no other.
-fn quantum_at(summary: Summary, inventory: &[u64], head: Head) -> Quantum
+fn quantum_at(summary: Summary, inventory: &[u64], head: Head) -> Result<u32, Refusal>
     requires { HeadIn summary inventory.now head }
-    ensures { quantum result ≡ spacing_at summary inventory.now head.entry }
+    ensures { outcome result ≡ spacing_at summary inventory.now head.entry }
 {
     let log2_ones_per_sub16 = summary.plan.log2_ones_per_sub16;
-    let kind = head.kind;
-    match kind {
-        SpanType::U16 => Quantum::Log2(log2_ones_per_sub16),
+    match head.kind {
+        SpanType::U16 => Ok(log2_ones_per_sub16),
         SpanType::U32 => {
             let span = span_at(summary, inventory, head);
             if span < 65537 {
-                return Quantum::TooSmall;
+                return Err(Refusal::CellsUnlawful);
             }
-            Quantum::Log2(log2_ones_per_sub32(span, log2_ones_per_sub16))
+            Ok(log2_ones_per_sub32(span, log2_ones_per_sub16))
         }
-        SpanType::U64 => Quantum::Log2(0),
+        SpanType::U64 => Ok(0),
     }
 }
 
@@ -173,77 +166,82 @@ fn lane_of(width: u64, cell: u64, lane: u64) -> u64
 }
 
 // The number of mark i. The spilled cell's number may pass 2^64: it is held to the count before it is reckoned.
-fn number_at(summary: Summary, inventory: &[u64], spill: &[u64], head: Head, i: u64) -> Number
+fn number_at(
+    summary: Summary,
+    inventory: &[u64],
+    spill: &[u64],
+    head: Head,
+    i: u64,
+) -> Result<Number, Refusal>
     requires { HeadIn summary inventory.now head × (summary.spill_len ≤ length spill.now) }
-    ensures { result ≡ number_of_mark summary inventory.now spill.now head.entry i }
+    ensures { outcome result ≡ number_of_mark summary inventory.now spill.now head.entry i }
 {
     let first = head.cell + 1;
-    let kind = head.kind;
-    let shape = shape_of(kind, head.start);
+    let shape = shape_of(head.kind, head.start);
     let spot = place_of(shape, summary.plan.log2_words_per_subinventory, i);
     match spot {
-        Spot::Start => Number::Is(head.start, false),
+        Spot::Start => Ok(Number {
+            value: head.start,
+            spilled: false,
+        }),
         Spot::Own(n, lane) => {
             let at = (first + shape.heads + n) as usize;
-            Number::Is(lane_of(shape.width, inventory[at], lane), false)
+            let value = lane_of(shape.width, inventory[at], lane);
+            Ok(Number {
+                value,
+                spilled: false,
+            })
         }
         Spot::Over(n, lane) => {
             let from = inventory[first as usize];
-            if saturating_sub(summary.spill_len, from) <= n {
-                return Number::Missing;
+            if summary.spill_len.saturating_sub(from) <= n {
+                return Err(Refusal::CellsUnlawful);
             }
-            Number::Is(lane_of(shape.width, spill[(from + n) as usize], lane), true)
+            let value = lane_of(shape.width, spill[(from + n) as usize], lane);
+            Ok(Number {
+                value,
+                spilled: true,
+            })
         }
     }
 }
 
-pub(crate) fn decode(summary: Summary, inventory: &[u64], spill: &[u64], rank: u64) -> Decoding
+pub(crate) fn decode(
+    summary: Summary,
+    inventory: &[u64],
+    spill: &[u64],
+    rank: u64,
+) -> Result<Decoded, Refusal>
     requires { Readable summary inventory.now spill.now rank }
-    ensures { decoded result ≡ decode_of summary inventory.now spill.now rank }
+    ensures { outcome result ≡ decode_of summary inventory.now spill.now rank }
 {
     let plan = summary.plan;
     let head = read_head(summary, inventory, rank >> plan.log2_ones_per_inventory);
-    let Quantum::Log2(log2_quantum) = quantum_at(summary, inventory, head) else {
-        return Decoding::Refused;
-    };
+    let log2_quantum = quantum_at(summary, inventory, head)?;
     let subrank = low_bits(rank, plan.log2_ones_per_inventory as u64);
-    let Number::Is(number, spilled) = number_at(
-        summary,
-        inventory,
-        spill,
-        head,
-        subrank >> log2_quantum,
-    ) else {
-        return Decoding::Refused;
-    };
-    let kind = head.kind;
-    let base = shape_of(kind, head.start).base;
-    if saturating_sub(plan.len, base) <= number {
-        return Decoding::Refused;
+    let number = number_at(summary, inventory, spill, head, subrank >> log2_quantum)?;
+    let base = shape_of(head.kind, head.start).base;
+    if plan.len.saturating_sub(base) <= number.value {
+        return Err(Refusal::CellsUnlawful);
     }
     let residual = low_bits(subrank, log2_quantum as u64);
-    Decoding::Mark(Decoded {
+    Ok(Decoded {
         head,
         log2_quantum,
-        mark: base + number,
+        mark: base + number.value,
         residual,
-        spilled,
+        spilled: number.spilled,
     })
 }
 
-// What a decoding says of the mark alone.
-fn mark_by(decoding: Decoding) -> Marked
-    ensures { marked result ≡ and_then (decoded decoding) (λ d. answer (mark_by d)) }
+// What is decoded says the mark too.
+fn mark_by(decoded: Decoded) -> Mark
+    ensures { result ≡ mark_by decoded }
 {
-    let Decoding::Mark(decoded) = decoding else {
-        return Marked::Refused;
-    };
-    let head = decoded.head;
-    let kind = head.kind;
-    match kind {
-        SpanType::U16 => Marked::At(decoded.mark, decoded.residual, false),
-        SpanType::U32 => Marked::At(decoded.mark, decoded.residual, false),
-        SpanType::U64 => Marked::At(decoded.mark, decoded.residual, true),
+    Mark {
+        at: decoded.mark,
+        residual: decoded.residual,
+        exact: matches!(decoded.head.kind, SpanType::U64),
     }
 }
 
@@ -256,10 +254,16 @@ fn quarter_at(inventory: &[u64], first: u64, i: u64) -> u64
 }
 
 // Steps 2 to 6 for a caller that asks for the mark alone. Nearly every entry is U16, and its numbers all stand in its own
-// cells: they are read without the general shape.
-pub fn mark_of(summary: Summary, inventory: &[u64], spill: &[u64], rank: u64) -> Marked
+// cells: they are read without the general shape. Summary and cells in one struct would have to be stored for this call: that
+// costs a rising jump 1.6 ns and a dwell 5.
+pub fn mark_of(
+    summary: Summary,
+    inventory: &[u64],
+    spill: &[u64],
+    rank: u64,
+) -> Result<Mark, Refusal>
     requires { Readable summary inventory.now spill.now rank }
-    ensures { marked result ≡ mark_of_rank summary inventory.now spill.now rank }
+    ensures { outcome result ≡ mark_of_rank summary inventory.now spill.now rank }
 {
     let plan = summary.plan;
     let l = plan.log2_ones_per_inventory;
@@ -267,16 +271,16 @@ pub fn mark_of(summary: Summary, inventory: &[u64], spill: &[u64], rank: u64) ->
     let cell = first_cell(plan, rank >> l);
     let start = inventory[cell as usize];
     let SpanType::U16 = kind_of(start) else {
-        // Copies, so that no other path has to store what this call takes.
-        let own_summary = summary;
-        let own_inventory = inventory;
-        let own_spill = spill;
-        return mark_by(decode(own_summary, own_inventory, own_spill, rank));
+        return Ok(mark_by(decode(summary, inventory, spill, rank)?));
     };
     let subrank = low_bits(rank, l as u64);
     let mark = start + quarter_at(inventory, cell + 1, subrank >> s);
     if plan.len <= mark {
-        return Marked::Refused;
+        return Err(Refusal::CellsUnlawful);
     }
-    Marked::At(mark, low_bits(subrank, s as u64), false)
+    Ok(Mark {
+        at: mark,
+        residual: low_bits(subrank, s as u64),
+        exact: false,
+    })
 }

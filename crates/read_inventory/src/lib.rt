@@ -5,6 +5,6 @@ mod decode;
 mod jump;
 mod tests;
 
-pub use decode::{Marked, mark_of};
-pub use jump::{CellPart, Hinted, dwell, hint, select, subinventory, subinventory_part};
+pub use decode::{Hint, Mark, mark_of};
+pub use jump::{CellPart, dwell, hint, select, subinventory, subinventory_part};
 pub use tests::test_index;

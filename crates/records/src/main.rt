@@ -3,23 +3,30 @@
 #![tactic(auto)]
 
 ghost use Rattle.std.specs.Prelude.{◌≡◌, length};
+ghost use Rattle.std.specs.Result.{ForOk};
 
 use edge_index::{
-    Answer, Built, Checked, Choice, Hinted, InWord, Parameters, Planned, Polarity, Refusal, Sized,
-    Summary, build, check, count, dwell, hint, plan, refusal_number, select, select_in_word,
-    select_list, size, subinventory,
+    Choice, Hint, Parameters, Polarity, Refusal, Sizes, Summary, build, check, count, dwell, hint,
+    plan, select, select_in_word, select_list, size, subinventory,
 };
 use std::io;
 
-fn end_refused(rt: &impl Print, refusal: Refusal) -> io::Result<()> {
-    println!(rt; "refused {}", refusal_number(refusal))
+// The line of an answer, or of a refusal.
+fn end<T, F: FnOnce(T) -> io::Result<()>>(
+    rt: &impl Print,
+    told: Result<T, Refusal>,
+    line: F,
+) -> io::Result<()>
+    requires { ForOk told (F.pre line) }
+{
+    match told {
+        Ok(answer) => line(answer),
+        Err(refusal) => println!(rt; "refused {}", refusal.number()),
+    }
 }
 
-fn show(rt: &impl Print, answer: Answer) -> io::Result<()> {
-    match answer {
-        Answer::Value(number) => println!(rt; "{number}"),
-        Answer::Refused(refusal) => end_refused(rt, refusal),
-    }
+fn show(rt: &impl Print, told: Result<u64, Refusal>) -> io::Result<()> {
+    end(rt, told, |number| println!(rt; "{number}"))
 }
 
 fn show_count(
@@ -35,10 +42,7 @@ fn show_count(
 
 fn show_in_word(rt: &impl Print, word: u64, rank: u64) -> io::Result<()> {
     print!(rt; "in word {word:#x}, rank {rank}: ")?;
-    match select_in_word(word, rank) {
-        InWord::At(position) => println!(rt; "{position}"),
-        InWord::Refused(refusal) => end_refused(rt, refusal),
-    }
+    show(rt, select_in_word(word, rank))
 }
 
 fn end_planned(rt: &impl Print, p: Parameters) -> io::Result<()> {
@@ -57,10 +61,11 @@ fn show_plan(
     choice: Choice,
 ) -> io::Result<()> {
     print!(rt; "plan {name}: ")?;
-    match plan(words, len, polarity, choice) {
-        Planned::Plan(p) => end_planned(rt, p),
-        Planned::Refused(refusal) => end_refused(rt, refusal),
-    }
+    end(
+        rt,
+        plan(words, len, polarity, choice),
+        |p| end_planned(rt, p),
+    )
 }
 
 // Record A, ones.
@@ -191,41 +196,36 @@ fn end_cells(rt: &impl Print, cells: &[u64]) -> io::Result<()> {
     println!(rt; "")
 }
 
-fn show_sized(rt: &impl Print, sized: Sized) -> io::Result<()> {
-    match sized {
-        Sized::Cells(inventory_len, spill_len) => {
-            println!(rt; "cells {inventory_len}, spilled {spill_len}")
-        }
-        Sized::Refused(refusal) => end_refused(rt, refusal),
-    }
+fn show_sizes(rt: &impl Print, told: Result<Sizes, Refusal>) -> io::Result<()> {
+    end(
+        rt,
+        told,
+        |sizes| println!(rt; "cells {}, spilled {}", sizes.inventory, sizes.spill),
+    )
 }
 
-fn show_built(rt: &impl Print, built: Built) -> io::Result<()> {
-    match built {
-        Built::Summary(summary) => {
-            print!(rt;
-                "cells {}, spilled {}, ",
-                summary.inventory_len, summary.spill_len,
-            )?;
-            end_planned(rt, summary.plan)
-        }
-        Built::Refused(refusal) => end_refused(rt, refusal),
-    }
+fn end_built(rt: &impl Print, summary: Summary) -> io::Result<()> {
+    print!(rt;
+        "cells {}, spilled {}, ",
+        summary.inventory_len, summary.spill_len,
+    )?;
+    end_planned(rt, summary.plan)
 }
 
-fn show_checked(rt: &impl Print, checked: Checked) -> io::Result<()> {
-    match checked {
-        Checked::Yes => println!(rt; "yes"),
-        Checked::No => println!(rt; "no"),
-        Checked::Refused(refusal) => end_refused(rt, refusal),
-    }
+fn show_checked(rt: &impl Print, told: Result<bool, Refusal>) -> io::Result<()> {
+    end(
+        rt,
+        told,
+        |yes| println!(rt; "{}", if yes { "yes" } else { "no" }),
+    )
 }
 
-fn show_hint(rt: &impl Print, hinted: Hinted) -> io::Result<()> {
-    match hinted {
-        Hinted::Mark(mark, rank) => { println!(rt; "mark {mark}, rank {rank}") }
-        Hinted::Refused(refusal) => end_refused(rt, refusal),
-    }
+fn show_hint(rt: &impl Print, told: Result<Hint, Refusal>) -> io::Result<()> {
+    end(
+        rt,
+        told,
+        |hint| println!(rt; "mark {}, rank {}", hint.mark, hint.rank),
+    )
 }
 
 // The summary, from 0 on, of a plan that the caller writes out.
@@ -266,9 +266,13 @@ fn show_index(
     spill: &mut [u64],
 ) -> io::Result<()> {
     print!(rt; "size {name}: ")?;
-    show_sized(rt, size(words, len, polarity, choice))?;
+    show_sizes(rt, size(words, len, polarity, choice))?;
     print!(rt; "build {name}: ")?;
-    show_built(rt, build(words, len, 0, polarity, choice, inventory, spill))?;
+    end(
+        rt,
+        build(words, len, 0, polarity, choice, inventory, spill),
+        |summary| end_built(rt, summary),
+    )?;
     print!(rt; "  inventory")?;
     end_cells(rt, inventory)?;
     print!(rt; "  spill")?;
@@ -850,7 +854,7 @@ fn build_from(rt: &impl Print, name: &str, len: u64, origin: u64) -> io::Result<
     let mut none = [u64::MAX; 1];
     print!(rt; "build {name}: ")?;
     let choice = Choice::Power(1, 0);
-    show_built(
+    end(
         rt,
         build(
             &a,
@@ -861,6 +865,7 @@ fn build_from(rt: &impl Print, name: &str, len: u64, origin: u64) -> io::Result<
             &mut cells,
             &mut none,
         ),
+        |summary| end_built(rt, summary),
     )?;
     print!(rt; "  inventory")?;
     end_cells(rt, &cells)

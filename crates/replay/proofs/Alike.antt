@@ -1,11 +1,11 @@
 -- One step of a comparison from the start.
 use mathlib.Core.List.{List, [], ◌∷◌}
 use mathlib.Core.Path.{◌≡◌, refl}
-use Prim.Native.Nat.{ℕ, ◌+◌, ◌≤◌, ◌<◌}
+use Prim.Native.Nat.{ℕ, suc, min, ◌+◌, ◌≤◌, ◌<◌}
 use native.Mathlib.Numerals.{add-one}
 use native.Mathlib.Omega.{arith}
 use borrow.Author.Tests.{eq-eqb, ne_eqb}
-use lib.ListN.{length, drop, get_or, drop_of_length-le}
+use lib.ListN.{length, get_or, drop_of_length-le}
 use lib.Seq.{drop-cons}
 use Rattle.replay.specs.Cells.{alike, alike_from}
 
@@ -22,10 +22,18 @@ module _ (xs ys : List ℕ) (i : ℕ) where
   unfolding alike
   alike_first_ends h = rw (drop_of_length-le xs h) (omega arith)
 
-  pub alike_second_ends : length ys ≤ i → alike_from i xs ys ≡ i
-  unfolding alike
-  alike_second_ends h = rw (drop_of_length-le ys h, none (drop i xs)) (omega arith)
-    where
-      none : (l : List ℕ) → alike l [] ≡ 0
-      none [] = refl
-      none (x ∷ l) = refl
+-- the same at the front of what is left
+pub alike_step : (xs ys : List ℕ) (x y : ℕ) (xs' ys' : List ℕ) → xs ≡ x ∷ xs' → ys ≡ y ∷ ys' → x ≡ y → alike xs ys ≡ suc (alike xs' ys')
+unfolding alike
+alike_step xs ys x y xs' ys' e f h = rw (e, f, eq-eqb x y h)
+
+pub alike_stop : (xs ys : List ℕ) (x y : ℕ) (xs' ys' : List ℕ) → xs ≡ x ∷ xs' → ys ≡ y ∷ ys' → (x ≡ y → ⊥) → alike xs ys ≡ 0
+unfolding alike
+alike_stop xs ys x y xs' ys' e f h = rw (e, f, ne_eqb x y h)
+
+-- what is alike of lists of which one is empty
+pub alike_none : (xs ys : List ℕ) → min (length xs) (length ys) ≡ 0 → alike xs ys ≡ 0
+unfolding alike
+alike_none [] ys h = refl
+alike_none (x ∷ xs) [] h = refl
+alike_none (x ∷ xs) (y ∷ ys) h = absurd (omega arith)

@@ -1,6 +1,5 @@
 -- Cells compared from the start.
-use Rattle.std.specs.Prelude.{cond, List, [], ◌∷◌, ℕ, suc, ◌+◌, eqb, drop}
-use Rattle.inventory.specs.Lanes.{tabulate}
+use Rattle.std.specs.Prelude.{cond, List, [], ◌∷◌, ℕ, suc, ◌+◌, eqb, drop, replicate}
 
 -- how many elements at the start are the same
 unfoldable pub alike : List ℕ → List ℕ → ℕ
@@ -17,4 +16,4 @@ abbrev pub blank : ℕ
 blank = 11936128518282651045
 
 abbrev pub blanks : ℕ → List ℕ
-blanks n = tabulate (λ i. blank) n
+blanks n = replicate n blank

@@ -1,3 +1,2 @@
-pub mod Cases
 pub mod Cells
 pub mod Selects

@@ -1,170 +1,13 @@
 // The library's answers to one case, held to the listed ones.
 ghost use Rattle.std.specs.Prelude.{◌≡◌};
 ghost use Rattle.read_inventory.specs.Jump.{select_of};
-ghost use Rattle.replay.specs.Cases.{Ordered, PartsIn};
 ghost use Rattle.replay.specs.Selects.{is_at, selects_alike};
 
 use crate::cells::{alike, blank_from, fill};
-use crate::list::{Case, Figures, Parts, Question, inventory_of, selects_of, spill_of, words_of};
+use crate::list::{Case, Figures, Question};
 use crate::tally::Tally;
-use edge_index::{
-    Answer, Built, Checked, Parameters, Planned, Refusal, Sized, Summary, build, check, count,
-    plan, refusal_number, select, size,
-};
+use edge_index::{Parameters, Refusal, Summary, build, check, count, plan, select, size};
 use std::io;
-
-// The refusal of a call that the Rust answers.
-fn turned_down(out: &impl Print, tally: Tally, what: &str, refusal: Refusal) -> io::Result<Tally> {
-    tally.compare(out, what, refusal_number(refusal), 0)
-}
-
-fn replay_count(out: &impl Print, tally: Tally, list: &[u64], case: Case) -> io::Result<Tally>
-    requires { PartsIn list.now case.parts }
-{
-    let question = case.question;
-    let polarity = question.polarity;
-    match count(words_of(list, case.parts), question.len, polarity) {
-        Answer::Value(num) => tally.compare(out, "count", num, case.figures.num),
-        Answer::Refused(refusal) => turned_down(out, tally, "refusal of count", refusal),
-    }
-}
-
-fn compare_plan(
-    out: &impl Print,
-    tally: Tally,
-    plan: Parameters,
-    figures: Figures,
-) -> io::Result<Tally> {
-    let l = plan.log2_ones_per_inventory as u64;
-    let m = plan.log2_words_per_subinventory as u64;
-    let s = plan.log2_ones_per_sub16 as u64;
-    tally
-        .compare(out, "N", plan.num, figures.num)?
-        .compare(out, "L", l, figures.log2_ones_per_inventory)?
-        .compare(out, "M", m, figures.log2_words_per_subinventory)?
-        .compare(out, "S", s, figures.log2_ones_per_sub16)
-}
-
-fn replay_plan(out: &impl Print, tally: Tally, list: &[u64], case: Case) -> io::Result<Tally>
-    requires { PartsIn list.now case.parts }
-{
-    let question = case.question;
-    let polarity = question.polarity;
-    let choice = question.choice;
-    match plan(words_of(list, case.parts), question.len, polarity, choice) {
-        Planned::Plan(plan) => compare_plan(out, tally, plan, case.figures),
-        Planned::Refused(refusal) => turned_down(out, tally, "refusal of plan", refusal),
-    }
-}
-
-// Asked only where the Rust answers: count and plan can answer where size and build cannot.
-fn replay_figures(out: &impl Print, tally: Tally, list: &[u64], case: Case) -> io::Result<Tally>
-    requires { PartsIn list.now case.parts }
-{
-    if case.refusal != 0 {
-        return Ok(tally);
-    }
-    let tally = replay_count(out, tally, list, case)?;
-    replay_plan(out, tally, list, case)
-}
-
-fn compare_counts(
-    out: &impl Print,
-    tally: Tally,
-    inventory_len: u64,
-    spill_len: u64,
-    parts: Parts,
-) -> io::Result<Tally>
-    requires { Ordered parts }
-{
-    tally
-        .compare(
-            out,
-            "inventory count",
-            inventory_len,
-            (parts.spill - parts.inventory) as u64,
-        )?
-        .compare(
-            out,
-            "spill count",
-            spill_len,
-            (parts.selects_count - parts.spill) as u64,
-        )
-}
-
-// Size takes no origin: of a case that is turned down for it, the list does not say what size answers.
-fn replay_size(out: &impl Print, tally: Tally, list: &[u64], case: Case) -> io::Result<Tally>
-    requires { PartsIn list.now case.parts }
-{
-    if case.refusal == refusal_number(Refusal::OriginTooLarge) {
-        return Ok(tally);
-    }
-    let question = case.question;
-    let polarity = question.polarity;
-    let choice = question.choice;
-    match size(words_of(list, case.parts), question.len, polarity, choice) {
-        Sized::Cells(inventory_len, spill_len) => {
-            let tally = tally.compare(out, "refusal of size", 0, case.refusal)?;
-            compare_counts(out, tally, inventory_len, spill_len, case.parts)
-        }
-        Sized::Refused(refusal) => tally.compare(
-            out,
-            "refusal of size",
-            refusal_number(refusal),
-            case.refusal,
-        ),
-    }
-}
-
-// The first cells have to be the listed ones, and the others as they were.
-fn compare_cells(
-    out: &impl Print,
-    tally: Tally,
-    what: &str,
-    kept: &str,
-    cells: &[u64],
-    listed: &[u64],
-) -> io::Result<Tally> {
-    let n = alike(cells, listed);
-    tally
-        .with_cells(n)
-        .compare(out, what, n as u64, listed.len() as u64)?
-        .compare(
-            out,
-            kept,
-            blank_from(cells, listed.len()) as u64,
-            cells.len() as u64,
-        )
-}
-
-// The built summary with the listed cells.
-fn replay_check(
-    out: &impl Print,
-    tally: Tally,
-    list: &[u64],
-    case: Case,
-    summary: Summary,
-) -> io::Result<Tally>
-    requires { PartsIn list.now case.parts }
-{
-    let question = case.question;
-    let polarity = question.polarity;
-    let choice = question.choice;
-    match check(
-        words_of(list, case.parts),
-        question.len,
-        question.origin,
-        polarity,
-        choice,
-        summary,
-        inventory_of(list, case.parts),
-        spill_of(list, case.parts),
-    ) {
-        Checked::Yes => tally.compare(out, "check says yes", 1, 1),
-        Checked::No => tally.compare(out, "check says yes", 0, 1),
-        Checked::Refused(refusal) => turned_down(out, tally, "refusal of check", refusal),
-    }
-}
 
 fn is_at(
     words: &[u64],
@@ -177,8 +20,8 @@ fn is_at(
     ensures { result ≡ is_at sample (select_of words.now summary inventory.now spill.now rank) }
 {
     match select(words, summary, inventory, spill, rank) {
-        Answer::Value(p) => p == sample,
-        Answer::Refused(_) => false,
+        Ok(p) => p == sample,
+        Err(_) => false,
     }
 }
 
@@ -192,57 +35,13 @@ fn selects_alike(
 ) -> usize
     ensures { result ≡ selects_alike (select_of words.now summary inventory.now spill.now) selects.now }
 {
-    let n = selects.len() / 2;
-    let mut i = 0;
-    while i < n {
-        let rank = selects[2 * i];
-        let sample = selects[2 * i + 1];
-        if !is_at(words, summary, inventory, spill, rank, sample) {
+    let (pairs, _) = selects.as_chunks::<2>();
+    for (i, [rank, sample]) in pairs.iter().enumerate() {
+        if !is_at(words, summary, inventory, spill, *rank, *sample) {
             return i;
         }
-        i += 1;
     }
-    n
-}
-
-// The listed ranks, on the listed cells.
-fn replay_selects(
-    out: &impl Print,
-    tally: Tally,
-    list: &[u64],
-    parts: Parts,
-    summary: Summary,
-) -> io::Result<Tally>
-    requires { PartsIn list.now parts }
-{
-    let selects = selects_of(list, parts);
-    let n = selects_alike(
-        words_of(list, parts),
-        summary,
-        inventory_of(list, parts),
-        spill_of(list, parts),
-        selects,
-    );
-    tally
-        .with_selects(n)
-        .compare(out, "selects alike", n as u64, (selects.len() / 2) as u64)
-}
-
-fn replay_summary(
-    out: &impl Print,
-    tally: Tally,
-    list: &[u64],
-    case: Case,
-    summary: Summary,
-) -> io::Result<Tally>
-    requires { PartsIn list.now case.parts }
-{
-    let parts = case.parts;
-    let tally = compare_plan(out, tally, summary.plan, case.figures)?;
-    let tally = tally.compare(out, "origin", summary.origin, case.question.origin)?;
-    let tally = compare_counts(out, tally, summary.inventory_len, summary.spill_len, parts)?;
-    let tally = replay_check(out, tally, list, case, summary)?;
-    replay_selects(out, tally, list, parts, summary)
+    pairs.len()
 }
 
 // The build into cells that are blank before.
@@ -251,87 +50,195 @@ fn build_blank(
     question: Question,
     inventory: &mut [u64],
     spill: &mut [u64],
-) -> Built {
+) -> Result<Summary, Refusal> {
     fill(inventory);
     fill(spill);
-    let polarity = question.polarity;
-    let choice = question.choice;
     build(
         words,
         question.len,
         question.origin,
-        polarity,
-        choice,
+        question.polarity,
+        question.choice,
         inventory,
         spill,
     )
 }
 
-fn replay_build(
-    out: &impl Print,
-    tally: Tally,
-    list: &[u64],
-    case: Case,
-    inventory: &mut [u64],
-    spill: &mut [u64],
-) -> io::Result<Tally>
-    requires { PartsIn list.now case.parts }
-{
-    match build_blank(words_of(list, case.parts), case.question, inventory, spill) {
-        Built::Summary(summary) => {
-            let tally = tally.compare(out, "refusal of build", 0, case.refusal)?;
-            replay_summary(out, tally, list, case, summary)
-        }
-        Built::Refused(refusal) => tally.compare(
-            out,
-            "refusal of build",
-            refusal_number(refusal),
-            case.refusal,
-        ),
+impl<P: Print> Tally<'_, P> {
+    // A refusal of the library's against the listed one, each 0 where there is none.
+    fn compare_refusal(
+        &mut self,
+        what: &str,
+        ours: Option<Refusal>,
+        listed: Option<u64>,
+    ) -> io::Result<()> {
+        self.compare(
+            what,
+            ours.map_or(0, |refusal| refusal.number()),
+            listed.unwrap_or(0),
+        )
     }
-}
 
-// A case without listed cells is turned down: every lent cell has to be as it was.
-fn compare_index(
-    out: &impl Print,
-    tally: Tally,
-    list: &[u64],
-    parts: Parts,
-    inventory: &[u64],
-    spill: &[u64],
-) -> io::Result<Tally>
-    requires { PartsIn list.now parts }
-{
-    let tally = compare_cells(
-        out,
-        tally,
-        "inventory cells alike",
-        "inventory cells kept up to",
-        inventory,
-        inventory_of(list, parts),
-    )?;
-    compare_cells(
-        out,
-        tally,
-        "spill cells alike",
-        "spill cells kept up to",
-        spill,
-        spill_of(list, parts),
-    )
-}
+    fn compare_plan(&mut self, plan: Parameters, figures: Figures) -> io::Result<()> {
+        let l = plan.log2_ones_per_inventory as u64;
+        let m = plan.log2_words_per_subinventory as u64;
+        let s = plan.log2_ones_per_sub16 as u64;
+        self.compare("N", plan.num, figures.num)?;
+        self.compare("L", l, figures.log2_ones_per_inventory)?;
+        self.compare("M", m, figures.log2_words_per_subinventory)?;
+        self.compare("S", s, figures.log2_ones_per_sub16)
+    }
 
-pub(crate) fn replay_case(
-    out: &impl Print,
-    tally: Tally,
-    list: &[u64],
-    case: Case,
-    inventory: &mut [u64],
-    spill: &mut [u64],
-) -> io::Result<Tally>
-    requires { PartsIn list.now case.parts }
-{
-    let tally = replay_figures(out, tally.with_case(case.refusal), list, case)?;
-    let tally = replay_size(out, tally, list, case)?;
-    let tally = replay_build(out, tally, list, case, inventory, spill)?;
-    compare_index(out, tally, list, case.parts, inventory, spill)
+    fn compare_counts(
+        &mut self,
+        inventory_len: u64,
+        spill_len: u64,
+        case: Case<'_>,
+    ) -> io::Result<()> {
+        self.compare(
+            "inventory count",
+            inventory_len,
+            case.inventory.len() as u64,
+        )?;
+        self.compare("spill count", spill_len, case.spill.len() as u64)
+    }
+
+    fn replay_count(&mut self, case: Case<'_>) -> io::Result<()> {
+        let question = case.question;
+        match count(case.words, question.len, question.polarity) {
+            Ok(num) => self.compare("count", num, case.figures.num),
+            Err(refusal) => self.compare_refusal("refusal of count", Some(refusal), None),
+        }
+    }
+
+    fn replay_plan(&mut self, case: Case<'_>) -> io::Result<()> {
+        let question = case.question;
+        match plan(case.words, question.len, question.polarity, question.choice) {
+            Ok(plan) => self.compare_plan(plan, case.figures),
+            Err(refusal) => self.compare_refusal("refusal of plan", Some(refusal), None),
+        }
+    }
+
+    // Asked only where the Rust answers: count and plan can answer where size and build cannot.
+    fn replay_figures(&mut self, case: Case<'_>) -> io::Result<()> {
+        if case.refusal.is_some() {
+            return Ok(());
+        }
+        self.replay_count(case)?;
+        self.replay_plan(case)
+    }
+
+    // Size takes no origin: of a case that is turned down for it, the list does not say what size answers.
+    fn replay_size(&mut self, case: Case<'_>) -> io::Result<()> {
+        if case.refusal == Some(Refusal::OriginTooLarge.number()) {
+            return Ok(());
+        }
+        let question = case.question;
+        match size(case.words, question.len, question.polarity, question.choice) {
+            Ok(sizes) => {
+                self.compare_refusal("refusal of size", None, case.refusal)?;
+                self.compare_counts(sizes.inventory, sizes.spill, case)
+            }
+            Err(refusal) => { self.compare_refusal("refusal of size", Some(refusal), case.refusal) }
+        }
+    }
+
+    // The built summary with the listed cells.
+    fn replay_check(&mut self, case: Case<'_>, summary: Summary) -> io::Result<()> {
+        let question = case.question;
+        match check(
+            case.words,
+            question.len,
+            question.origin,
+            question.polarity,
+            question.choice,
+            summary,
+            case.inventory,
+            case.spill,
+        ) {
+            Ok(yes) => self.compare("check says yes", yes as u64, 1),
+            Err(refusal) => self.compare_refusal("refusal of check", Some(refusal), None),
+        }
+    }
+
+    // The listed ranks, on the listed cells.
+    fn replay_selects(&mut self, case: Case<'_>, summary: Summary) -> io::Result<()> {
+        let n = selects_alike(
+            case.words,
+            summary,
+            case.inventory,
+            case.spill,
+            case.selects,
+        );
+        self.add_selects(n);
+        self.compare("selects alike", n as u64, (case.selects.len() / 2) as u64)
+    }
+
+    fn replay_summary(&mut self, case: Case<'_>, summary: Summary) -> io::Result<()> {
+        self.compare_plan(summary.plan, case.figures)?;
+        self.compare("origin", summary.origin, case.question.origin)?;
+        self.compare_counts(summary.inventory_len, summary.spill_len, case)?;
+        self.replay_check(case, summary)?;
+        self.replay_selects(case, summary)
+    }
+
+    fn replay_build(
+        &mut self,
+        case: Case<'_>,
+        inventory: &mut [u64],
+        spill: &mut [u64],
+    ) -> io::Result<()> {
+        match build_blank(case.words, case.question, inventory, spill) {
+            Ok(summary) => {
+                self.compare_refusal("refusal of build", None, case.refusal)?;
+                self.replay_summary(case, summary)
+            }
+            Err(refusal) => {
+                self.compare_refusal("refusal of build", Some(refusal), case.refusal)
+            }
+        }
+    }
+
+    // The first cells have to be the listed ones, and the others as they were.
+    fn compare_cells(
+        &mut self,
+        what: &str,
+        kept: &str,
+        cells: &[u64],
+        listed: &[u64],
+    ) -> io::Result<()> {
+        let n = alike(cells, listed);
+        self.add_cells(n);
+        self.compare(what, n as u64, listed.len() as u64)?;
+        self.compare(
+            kept,
+            blank_from(cells, listed.len()) as u64,
+            cells.len() as u64,
+        )
+    }
+
+    // A case without listed cells is turned down: every lent cell has to be as it was.
+    pub(crate) fn replay_case(
+        &mut self,
+        case: Case<'_>,
+        inventory: &mut [u64],
+        spill: &mut [u64],
+    ) -> io::Result<()> {
+        self.add_case(case.refusal.is_some());
+        self.replay_figures(case)?;
+        self.replay_size(case)?;
+        self.replay_build(case, inventory, spill)?;
+        self.compare_cells(
+            "inventory cells alike",
+            "inventory cells kept up to",
+            inventory,
+            case.inventory,
+        )?;
+        self.compare_cells(
+            "spill cells alike",
+            "spill cells kept up to",
+            spill,
+            case.spill,
+        )
+    }
 }

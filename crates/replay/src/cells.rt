@@ -8,40 +8,29 @@ const BLANK: u64 = 0xa5a5_a5a5_a5a5_a5a5;
 pub(crate) fn fill(cells: &mut [u64])
     ensures { cells.new ≡ blanks (length cells.old) }
 {
-    let mut i = 0;
-    while i < cells.len() {
-        cells[i] = BLANK;
-        i += 1;
-    }
+    cells.fill(BLANK);
 }
 
 // How many cells at the start are the same.
 pub(crate) fn alike(a: &[u64], b: &[u64]) -> usize
     ensures { result ≡ alike_from 0 a.now b.now }
 {
-    let mut i = 0;
-    while i < a.len() {
-        if i >= b.len() {
+    for (i, (x, y)) in a.iter().zip(b).enumerate() {
+        if x != y {
             return i;
         }
-        if a[i] != b[i] {
-            return i;
-        }
-        i += 1;
     }
-    i
+    a.len().min(b.len())
 }
 
 // Up to where the cells from `from` on are as they were filled.
 pub(crate) fn blank_from(cells: &[u64], from: usize) -> usize
     ensures { result ≡ alike_from from cells.now (blanks (length cells.now)) }
 {
-    let mut i = from;
-    while i < cells.len() {
+    for i in from..cells.len() {
         if cells[i] != BLANK {
             return i;
         }
-        i += 1;
     }
-    i
+    from.max(cells.len())
 }

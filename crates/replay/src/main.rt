@@ -2,92 +2,34 @@
 // list and says its format. Every number, cell and position is held to the listed one, and the totals say how many were.
 #![tactic(auto)]
 
-ghost use Rattle.std.specs.Prelude.{IfOk, ◌<◌, length};
-
 mod answers;
 mod cells;
 mod list;
 mod tally;
 
-use answers::replay_case;
-use find_edge_lib::{Capture, read_capture};
-use list::{Next, read_next};
-use rank_sel::min;
+use find_edge_lib::{CaptureError, read_capture};
+use list::{is_end, read_case};
 use std::io;
 use tally::Tally;
 
-// The place of the next case, and whether the list's end was met.
-#[derive(Drop)]
-struct Progress {
-    at: usize,
-    ended: bool,
-    tally: Tally,
-}
-
-// The case at the place. After the end, or what is no case, nothing is read.
-fn replay_next(
-    out: &impl Print,
-    progress: Progress,
-    list: &[u64],
-    inventory: &mut [u64],
-    spill: &mut [u64],
-) -> io::Result<Progress>
-    requires { progress.at < length list.now }
-    ensures { IfOk result (λ next. progress.at < next.at) }
-{
-    let tally = progress.tally;
-    match read_next(list, progress.at) {
-        Next::Case(case) => {
-            let tally = replay_case(out, tally, list, case, inventory, spill)?;
-            Ok(Progress {
-                at: case.parts.end,
-                ended: false,
-                tally,
-            })
-        }
-        Next::End => Ok(Progress {
-            at: list.len(),
-            ended: true,
-            tally,
-        }),
-        Next::Broken => Ok(Progress {
-            at: list.len(),
-            ended: false,
-            tally,
-        }),
-    }
-}
-
+// Every case, and the totals. A list that is cut short does not end in its end mark.
 fn replay(
     out: &impl Print,
     list: &[u64],
     inventory: &mut [u64],
     spill: &mut [u64],
-) -> io::Result<Progress> {
-    let mut progress = Progress {
-        at: 0,
-        ended: false,
-        tally: Tally::new(),
-    };
-    while progress.at < list.len() {
-        progress = replay_next(out, progress, list, inventory, spill)?;
-    }
-    Ok(progress)
-}
-
-// The totals. A list that is cut short does not end in its end mark.
-fn show(
-    out: &impl Print,
-    list: &[u64],
-    inventory: &mut [u64],
-    spill: &mut [u64],
 ) -> io::Result<()> {
-    let progress = replay(out, list, inventory, spill)?;
-    let tally = progress.tally;
-    if progress.ended {
-        return tally.show(out);
+    let mut tally = Tally::new(out);
+    let mut left = list;
+    while !is_end(left) {
+        let Some((case, behind)) = read_case(left) else {
+            tally.break_off()?;
+            break;
+        };
+        tally.replay_case(case, inventory, spill)?;
+        left = behind;
     }
-    tally.with_break(out)?.show(out)
+    tally.show()
 }
 
 // The list is read as a capture is: eight bytes to a number, the lowest first.
@@ -98,12 +40,14 @@ fn run(
     spill: &mut [u64],
 ) -> io::Result<()> {
     match read_capture(&mut rt.reader(), list) {
-        Capture::Samples(bits) => {
-            let numbers = min(bits / 64 + (bits % 64 + 63) / 64, list.len() as u64) as usize;
-            show(rt, &list[..numbers], inventory, spill)
+        Ok(bits) => {
+            let numbers = bits.div_ceil(64).min(list.len() as u64) as usize;
+            replay(rt, &list[..numbers], inventory, spill)
         }
-        Capture::TooLong => println!(rt; "the list is longer than the program's buffer"),
-        Capture::Failed => println!(rt; "the list cannot be read"),
+        Err(CaptureError::TooLong) => {
+            println!(rt; "the list is longer than the program's buffer")
+        }
+        Err(CaptureError::NotRead) => println!(rt; "the list cannot be read"),
     }
 }
 

@@ -1,15 +1,11 @@
 -- In-word select. Document 01, "Inside one word".
-use Rattle.std.specs.Prelude.{◌⊎◌, ◌≡◌, ℕ, ◌≤◌}
+use Rattle.std.specs.Prelude.{◌⊎◌, ◌≡◌, ℕ, ◌≤◌, Result, Ok, Err}
 use Rattle.std.proofs.Common.{inl, inr}
 use Rattle.std.proofs.Math.Option.{Option, none, some, get_or}
 use Rattle.std.specs.Int.Count.{ones}
-use Rattle.rank_sel.specs.Outcome.{Outcome, answer, refused, number_of, or_refuse}
+use Rattle.rank_sel.specs.Outcome.{Outcome, or_refuse}
 use Rattle.rank_sel.specs.Seek.{seek}
 use Rattle.select_in_word.specs.Bit.{bit}
-use Rattle.select_in_word.specs.declared.InWord.{InWord}
-use Rattle.select_in_word.specs.declared.InWord.TheVariants.{At, Refused}
-use Rattle.select_in_word.specs.declared.WordSeek.{WordSeek}
-use Rattle.select_in_word.specs.declared.WordSeek.TheVariants as WordSeekVariants
 
 -- a word has n ones
 pub record Counts (w n : ℕ) : Type 0 where
@@ -24,10 +20,6 @@ select_in_byte b r = get_or (seek (bit b) 8 0 r) 8
 unfoldable pub select_in_word : ℕ → ℕ → Outcome ℕ
 select_in_word w k = or_refuse 8 (seek (bit w) 64 0 k)
 
-abbrev pub in_word : InWord → Outcome ℕ
-in_word (At p) = answer p
-in_word (Refused r) = refused (number_of r)
-
 -- the ones of w where there is no position
 abbrev pub or_ones : ℕ → Option ℕ → ℕ ⊎ ℕ
 or_ones w none = inr (ones w)
@@ -37,7 +29,7 @@ or_ones w (some p) = inl p
 unfoldable pub seek_in_word : ℕ → ℕ → ℕ ⊎ ℕ
 seek_in_word w k = or_ones w (seek (bit w) 64 0 k)
 
--- what a WordSeek says: a position, or a count of ones
-abbrev pub said : WordSeek → ℕ ⊎ ℕ
-said (WordSeekVariants.At p) = inl p
-said (WordSeekVariants.Past n) = inr n
+-- what a seek in a word says: a position, or a count of ones
+abbrev pub said : Result ℕ ℕ → ℕ ⊎ ℕ
+said (Ok p) = inl p
+said (Err n) = inr n

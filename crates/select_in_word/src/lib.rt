@@ -5,23 +5,18 @@ ghost use Rattle.std.specs.Prelude.{cond, ◌≡◌, ℕ, suc, ◌*◌, ◌%◌,
 ghost use Rattle.std.specs.Int.Bits.{bit_and};
 ghost use Rattle.std.specs.Int.Count.{ones};
 ghost use Rattle.rank_sel.specs.Numbers.{sum};
+ghost use Rattle.rank_sel.specs.Outcome.{outcome};
 ghost use Rattle.rank_sel.specs.Rank.{ind};
 ghost use Rattle.rank_sel.specs.Seek.{Sought};
 ghost use Rattle.select_in_word.specs.Bit.{bit};
 ghost use Rattle.select_in_word.specs.Bytes.{byte_of, Bytes, first_above};
-ghost use Rattle.select_in_word.specs.Select.{Counts, in_word, said, seek_in_word, select_in_byte, select_in_word};
+ghost use Rattle.select_in_word.specs.Select.{Counts, said, seek_in_word, select_in_byte, select_in_word};
 ghost use Rattle.select_in_word.specs.Tail.{tail_mask};
 
 mod byte_table;
 
 use byte_table::SELECT_IN_BYTE;
 use rank_sel::Refusal;
-
-#[derive(Clone, Copy)]
-pub enum InWord {
-    At(u64),
-    Refused(Refusal),
-}
 
 // How many ones a word has.
 pub fn count_ones(word: u64) -> u64
@@ -38,21 +33,20 @@ fn select_in_byte(byte: u64, rank: u64) -> u64
 }
 
 // Through the bytes and the table.
-pub fn select_in_word(word: u64, rank: u64) -> InWord
-    ensures { in_word result ≡ select_in_word word rank }
+pub fn select_in_word(word: u64, rank: u64) -> Result<u64, Refusal>
+    ensures { outcome result ≡ select_in_word word rank }
 {
     let mut remaining = rank;
-    let mut at: u64 = 0;
-    while at < 64 {
+    for i in 0..8 {
+        let at = 8 * i;
         let byte = (word >> at) & 255;
         let ones = count_ones(byte);
         if remaining < ones {
-            return InWord::At(at + select_in_byte(byte, remaining));
+            return Ok(at + select_in_byte(byte, remaining));
         }
         remaining -= ones;
-        at += 8;
     }
-    InWord::Refused(Refusal::RankTooLarge)
+    Err(Refusal::RankTooLarge)
 }
 
 // The low n bits.
@@ -61,13 +55,6 @@ pub fn low_bits(word: u64, n: u64) -> u64
     ensures { result ≡ word % 2 ^ n }
 {
     word & ((1u64 << n) - 1)
-}
-
-// The position sought in a word, or how many ones the word has where these are too few.
-#[derive(Clone, Copy)]
-pub enum WordSeek {
-    At(u64),
-    Past(u64),
 }
 
 // Each byte's ones, in that byte.
@@ -107,19 +94,20 @@ fn spread(byte: u64) -> u64
     ((own + 0x7f7f_7f7f_7f7f_7f7f) >> 7) & 0x0101_0101_0101_0101
 }
 
-// The one with exactly k ones below it, by sums over bytes (Vigna, "Broadword implementation of rank/select queries").
-pub fn seek_in_word(word: u64, k: u64) -> WordSeek
+// The one with exactly k ones below it, by sums over bytes (Vigna, "Broadword implementation of rank/select queries"); the
+// error is how many ones the word has where these are too few.
+pub fn seek_in_word(word: u64, k: u64) -> Result<u64, u64>
     ensures { said result ≡ seek_in_word word k }
 {
     let sums = running_sums(byte_ones(word));
     let ones = sums >> 56;
     if ones <= k {
-        return WordSeek::Past(ones);
+        return Err(ones);
     }
     let at = first_above(sums, k);
     let before = ((sums << 8) >> at) & 255;
     let inner = running_sums(spread((word >> at) & 255));
-    WordSeek::At(at + first_above(inner, k - before) / 8)
+    Ok(at + first_above(inner, k - before) / 8)
 }
 
 // The lowest one.
@@ -131,18 +119,18 @@ fn first_one(word: u64) -> u64
 }
 
 // The same where few ones are likely to be passed: the first two are found without sums.
-pub fn seek_near(word: u64, k: u64) -> WordSeek
+pub fn seek_near(word: u64, k: u64) -> Result<u64, u64>
     ensures { said result ≡ seek_in_word word k }
 {
     if k < 2 {
         if word != 0 {
             let first = first_one(word);
             if k == 0 {
-                return WordSeek::At(first);
+                return Ok(first);
             }
             let rest = (word >> first) >> 1;
             if rest != 0 {
-                return WordSeek::At(first + 1 + first_one(rest));
+                return Ok(first + 1 + first_one(rest));
             }
         }
     }

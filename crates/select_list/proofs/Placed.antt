@@ -5,15 +5,12 @@ use mathlib.Core.Path.{◌≡◌, sym, ap, subst, ◌∙◌}
 use Prim.Native.Nat.{ℕ, ◌+◌, ◌≤◌}
 use native.Mathlib.Numerals.{add-one}
 use native.Mathlib.Omega.{arith}
-use lib.ListN.{length, get_or, take, length-append, length-map}
+use lib.ListN.{length, get_or, take, drop, length-append, length-map}
 use borrow.Author.Tests.{ltb-false}
-use Rattle.rank_sel.specs.Outcome.{Outcome, answer, answered, refused, number_of, test_by, NoneOf, tested, reason_of, and_then}
-use Rattle.rank_sel.specs.declared.Answer.{Answer}
-use Rattle.rank_sel.specs.declared.Answer.TheVariants as AnswerVariants
+use Rattle.std.specs.Prelude.{Result, Ok, Err, IsErr, IsErrAnd}
+use Rattle.rank_sel.specs.Outcome.{Outcome, answer, refused, number_of, test_by, NoneOf, and_then, outcome}
 use Rattle.rank_sel.specs.declared.Refusal.{Refusal}
-use Rattle.rank_sel.specs.declared.Tested.{Tested}
-use Rattle.rank_sel.specs.declared.Tested.TheVariants.{Passed, Refused}
-use Rattle.rank_sel.proofs.Outcome.{never, answer_is, then_answer, none_split, Tells, passed_none, passed_then, stopped_then}
+use Rattle.rank_sel.proofs.Outcome.{never, answer_is, then_answer, tests_then, none_split, passed_none, passed_then}
 use Rattle.bit_record.specs.Record.{sample_at, AdmittedFrom}
 use Rattle.spacing.specs.Spacing.{N}
 use Rattle.inventory.specs.declared.summary.Summary.{Summary}
@@ -51,80 +48,83 @@ module _ (ws : List ℕ) (t : Summary) (inv sp : List ℕ) where
     found : (w : Walk) → o ≡ answer w → length (samples w) ≡ length ranks
     found w e = length-map w.positions (sample_at t.origin) ∙ walk_long ranks start w e ∙ omega arith
 
-    placed_at : (l₀ l : List ℕ) (r : Answer) (w : Walk) → o ≡ answer w → answered r ≡ and_then o (λ w. answer w.total)
+    placed_at : (l₀ l : List ℕ) (r : Result ℕ Refusal) (w : Walk) → o ≡ answer w → outcome r ≡ and_then o (λ w. answer w.total)
         → length ranks ≤ length l₀ → l ≡ written (samples w) l₀ → Placed (walk_of ws t inv sp ranks) l₀ l r
     unfolding walk_of
     placed_at l₀ l r w e a h b =
         record { told = a ∙ rw e; places = b ∙ written_front (samples w) l₀ (omega (arith, found w e)) ∙ rw e }
 
-    pub placed_refused : (h₀ h l₀ : List ℕ) (r : Answer) (y : Refusal) → r ≡ AnswerVariants.Refused y → Wrote t.origin o h₀ h r
-        → Placed (walk_of ws t inv sp ranks) l₀ l₀ r
+    pub placed_refused : (h₀ h l₀ : List ℕ) (y : Refusal) → Wrote t.origin o h₀ h (Err y) → (r : Result ℕ Refusal)
+        → IsErr r × IsErrAnd r (λ z. z ≡ y) → Placed (walk_of ws t inv sp ranks) l₀ l₀ r
     unfolding walk_of
-    placed_refused h₀ h l₀ r y er b =
-        let e = total_none o (number_of y) (sym (ap answered er) ∙ b.told) in
-        record { told = b.told ∙ rw e; places = rw e }
+    placed_refused h₀ h l₀ y b (Err z) k =
+        let e = total_none o (number_of y) b.told in
+        record { told = ap (λ (x : Refusal). refused (number_of x)) k.1 ∙ b.told ∙ rw e; places = rw e }
+    placed_refused h₀ h l₀ y b (Ok z) k = absurd k.1
 
-    -- the walk that a first one told to be answered
-    walked : (h₀ h : List ℕ) (r : Answer) (k : ℕ) → r ≡ AnswerVariants.Value k → Wrote t.origin o h₀ h r → (w : Walk) × (o ≡ answer w)
-    walked h₀ h r k er b =
-        let w = then_answer o (λ w. answer w.total) k (sym b.told ∙ ap answered er) in
-        (w.0, w.1)
+    -- a first walk told that it is answered
+    module _ (h₀ h : List ℕ) (k : ℕ) (b : Wrote t.origin o h₀ h (Ok k)) where
+      walked : (w : Walk) × (o ≡ answer w)
+      walked =
+          let w = then_answer o (λ w. answer w.total) k (sym b.told) in
+          (w.0, w.1)
 
-    pub placed_again : (h₀ h l₀ l : List ℕ) (r q : Answer) (k : ℕ) → r ≡ AnswerVariants.Value k → Wrote t.origin o h₀ h r
-        → Wrote t.origin o l₀ l q → length ranks ≤ length l₀ → Placed (walk_of ws t inv sp ranks) l₀ l q
-    placed_again h₀ h l₀ l r q k er b c g =
-        let w = walked h₀ h r k er b in
-        placed_at l₀ l q w.0 w.1 c.told g (c.places w.0 w.1)
+      pub placed_again : (l₀ l : List ℕ) (q : Result ℕ Refusal) → Wrote t.origin o l₀ l q → length ranks ≤ length l₀
+          → Placed (walk_of ws t inv sp ranks) l₀ l q
+      placed_again l₀ l q c g = placed_at l₀ l q walked.0 walked.1 c.told g (c.places walked.0 walked.1)
 
-    pub placed_aside : (h₀ h l₀ l : List ℕ) (r : Answer) (k : ℕ) → r ≡ AnswerVariants.Value k → Wrote t.origin o h₀ h r
-        → length ranks ≤ length h₀ → length ranks ≤ length l₀ → l ≡ written (take (length ranks) h) l₀
-        → Placed (walk_of ws t inv sp ranks) l₀ l (AnswerVariants.Value k)
-    placed_aside h₀ h l₀ l r k er b d g c =
-        let w = walked h₀ h r k er b in
-        let n = found w.0 w.1 in
-        let f : take (length ranks) h ≡ samples w.0 = ap (take (length ranks)) (b.places w.0 w.1)
-        ∙ ap (λ (m : ℕ). take m (written (samples w.0) h₀)) (sym n) ∙ written_back (samples w.0) h₀ (omega arith) in
-        placed_at l₀ l (AnswerVariants.Value k) w.0 w.1 (sym (ap answered er) ∙ b.told) g (c ∙ ap (λ (ps : List ℕ). written ps l₀) f)
+      pub placed_aside : (l₀ l : List ℕ) → length ranks ≤ length h₀ → length ranks ≤ length l₀
+          → l ≡ take (length ranks) h ++ drop (length ranks) l₀ → Placed (walk_of ws t inv sp ranks) l₀ l (Ok k)
+      placed_aside l₀ l d g c =
+          let n = found walked.0 walked.1 in
+          let e : take (length ranks) h ≡ samples walked.0 = ap (take (length ranks)) (b.places walked.0 walked.1)
+          ∙ ap (λ (m : ℕ). take m (written (samples walked.0) h₀)) (sym n) ∙ written_back (samples walked.0) h₀ (omega arith) in
+          let a : l ≡ samples walked.0 ++ drop (length (samples walked.0)) l₀ = rw (e, ← n) at c in
+          placed_at l₀ l (Ok k) walked.0 walked.1 b.told g (a ∙ sym (written_front (samples walked.0) l₀ (omega arith)))
 
--- ---- an index, a list of ranks and so many places: x is what their tests found
-pub record ListCalled (ws : List ℕ) (t : Summary) (inv sp ranks : List ℕ) (lent : ℕ) (x : Tested) : Type 0 where
-  pub told : tested x ≡ test_by (of_index ws t inv sp ++ of_list (N t.plan) ranks lent)
+-- ---- an index, a list of ranks and so many places that passed the tests
+pub record ListCalled (ws : List ℕ) (t : Summary) (inv sp ranks : List ℕ) (lent : ℕ) : Type 0 where
+  pub passed : answer tt ≡ test_by (of_index ws t inv sp ++ of_list (N t.plan) ranks lent)
 
-module _ {ws : List ℕ} {t : Summary} {inv sp ranks : List ℕ} {lent : ℕ} {x : Tested} (w : ListCalled ws t inv sp ranks lent x) where
-  tells : Tells (of_index ws t inv sp ++ of_list (N t.plan) ranks lent) x
-  tells = record { told = w.told }
+module _ {ws : List ℕ} {t : Summary} {inv sp ranks : List ℕ} {lent : ℕ} (w : ListCalled ws t inv sp ranks lent) where
+  split : NoneOf (of_index ws t inv sp) × NoneOf (of_list (N t.plan) ranks lent)
+  split =
+      none_split (of_index ws t inv sp) (of_list (N t.plan) ranks lent)
+      (passed_none (of_index ws t inv sp ++ of_list (N t.plan) ranks lent) w.passed)
 
-  split : x ≡ Passed → NoneOf (of_index ws t inv sp) × NoneOf (of_list (N t.plan) ranks lent)
-  split e = none_split (of_index ws t inv sp) (of_list (N t.plan) ranks lent) (passed_none tells e)
+  list_held : IndexHeld ws t inv sp
+  list_held = index_held ws t inv sp split.0
 
-  list_held : x ≡ Passed → IndexHeld ws t inv sp
-  list_held e = index_held ws t inv sp (split e).0
+  pub list_from : AdmittedFrom ws t.plan.len t.origin
+  list_from = list_held.from
 
-  pub list_from : x ≡ Passed → AdmittedFrom ws t.plan.len t.origin
-  list_from e = (list_held e).from
-
-  pub list_walkable : x ≡ Passed → Walkable t inv sp ranks
-  list_walkable e =
-      let s = (split e).1 in
+  pub list_walkable : Walkable t inv sp ranks
+  list_walkable =
+      let s = split.1 in
       record {
-        readable = λ i h. readable ws t inv sp (list_held e) (get_or ranks i 0) (below_all (N t.plan) ranks i s.1.1.0 h);
+        readable = λ i h. readable ws t inv sp list_held (get_or ranks i 0) (below_all (N t.plan) ranks i s.1.1.0 h);
         rising = λ i h. rw (add-one i) (rise_next ranks 0 i s.0 (omega arith));
       }
 
-  pub list_room : x ≡ Passed → length ranks ≤ lent
-  list_room e = ltb-false lent (length ranks) (split e).1.1.0
+  pub list_room : length ranks ≤ lent
+  list_room = ltb-false lent (length ranks) split.1.1.0
 
-  list_passed : x ≡ Passed → walk_of ws t inv sp ranks ≡ list_of ws t inv sp ranks lent
+  list_passed : walk_of ws t inv sp ranks ≡ list_of ws t inv sp ranks lent
   unfolding list_of
-  list_passed e = passed_then tells e (walk_of ws t inv sp ranks)
+  list_passed = passed_then (of_index ws t inv sp ++ of_list (N t.plan) ranks lent) w.passed (walk_of ws t inv sp ranks)
 
-  pub list_placed : x ≡ Passed → (l₀ l : List ℕ) (r : Answer) → Placed (walk_of ws t inv sp ranks) l₀ l r
+  pub list_placed : (l₀ l : List ℕ) (r : Result ℕ Refusal) → Placed (walk_of ws t inv sp ranks) l₀ l r
       → Placed (list_of ws t inv sp ranks lent) l₀ l r
-  list_placed e l₀ l r p = subst (λ (q : Outcome Listed). Placed q l₀ l r) (list_passed e) p
+  list_placed l₀ l r p = subst (λ (q : Outcome Listed). Placed q l₀ l r) list_passed p
 
-  pub list_stopped : {q : Refusal} (y : Refusal) → x ≡ Refused q → y ≡ reason_of x → (l : List ℕ)
-      → Placed (list_of ws t inv sp ranks lent) l l (AnswerVariants.Refused y)
-  unfolding list_of
-  list_stopped y e ey l =
-      let d = stopped_then tells y e ey (walk_of ws t inv sp ranks) in
-      record { told = rw (← d); places = rw (← d) }
+-- and one that did not
+pub list_stopped : (ws : List ℕ) (t : Summary) (inv sp ranks : List ℕ) (lent : ℕ) (y : Refusal)
+    → refused (number_of y) ≡ test_by (of_index ws t inv sp ++ of_list (N t.plan) ranks lent) → (r : Result ℕ Refusal)
+    → IsErr r × IsErrAnd r (λ z. z ≡ y) → (l : List ℕ) → Placed (list_of ws t inv sp ranks lent) l l r
+unfolding list_of
+list_stopped ws t inv sp ranks lent y e (Err z) k l =
+    let cs = of_index ws t inv sp ++ of_list (N t.plan) ranks lent in
+    let d : refused (number_of y) ≡ list_of ws t inv sp ranks lent =
+    ap (λ (o : Outcome (Unit {0})). and_then o (λ u. walk_of ws t inv sp ranks)) e ∙ sym (tests_then cs (walk_of ws t inv sp ranks)) in
+    record { told = ap (λ (x : Refusal). refused (number_of x)) k.1 ∙ rw (← d); places = rw (← d) }
+list_stopped ws t inv sp ranks lent y e (Ok z) k l = absurd k.1

@@ -1,5 +1,5 @@
 -- Lists of ranks: one that falls nowhere has its largest rank last, and each rank below N where that one is.
-use mathlib.Core.Bool.{Bool, true, false, ◌||◌}
+use mathlib.Core.Bool.{Bool, true, false, not, ◌||◌}
 use mathlib.Core.List.{List, [], ◌∷◌}
 use mathlib.Core.Path.{◌≡◌, refl, sym, ap, ◌∙◌}
 use Prim.Native.Nat.{ℕ, zero, suc, ◌+◌, ◌-◌, ◌≤◌, ◌<◌}
@@ -7,32 +7,16 @@ use native.Mathlib.Nat.{suc-add}
 use native.Mathlib.Numerals.{add-one}
 use native.Mathlib.Omega.{arith}
 use lib.Dec.{leb, ltb}
-use lib.ListN.{length, get_or, drop}
-use lib.Seq.{drop-cons, drop-length}
-use borrow.Author.Tests.{lt-ltb, le-ltb, lt-leb, le-leb, leb-true, ltb-false, leb-false}
+use lib.ListN.{length, get_or}
+use borrow.Author.Tests.{le-ltb, lt-leb, le-leb, leb-true, ltb-false, leb-false}
+use Rattle.std.specs.Bool.{MatchBool}
+use Rattle.std.specs.List.Sorted.{IsNonDecreasing}
 use Rattle.inventory.proofs.Lawful.{or_false}
 use Rattle.select_list.specs.List.{falls_from, NeverFalls, any_too_large}
 
 or_right : (b : Bool) → b || false ≡ b
 or_right true = refl
 or_right false = refl
-
--- ---- 12, from rank i on
-falls_next : (ranks : List ℕ) (q i : ℕ) → i < length ranks
-    → falls_from q (drop i ranks) ≡ (ltb (get_or ranks i 0) q || falls_from (get_or ranks i 0) (drop (suc i) ranks))
-unfolding falls_from
-falls_next ranks q i h = ap (falls_from q) (drop-cons ranks i 0 h)
-
-pub falls_here : (ranks : List ℕ) (q i : ℕ) → i < length ranks → get_or ranks i 0 < q → falls_from q (drop i ranks) ≡ true
-falls_here ranks q i h l = falls_next ranks q i h ∙ rw (lt-ltb (get_or ranks i 0) q l)
-
-pub falls_later : (ranks : List ℕ) (q i : ℕ) → i < length ranks → q ≤ get_or ranks i 0
-    → falls_from q (drop i ranks) ≡ falls_from (get_or ranks i 0) (drop (i + 1) ranks)
-falls_later ranks q i h l = rw (add-one i) (falls_next ranks q i h ∙ rw (le-ltb (get_or ranks i 0) q l))
-
-pub falls_end : (ranks : List ℕ) (q i : ℕ) → i ≡ length ranks → falls_from q (drop i ranks) ≡ false
-unfolding falls_from
-falls_end ranks q i e = rw (ap (λ (j : ℕ). drop j ranks) e ∙ drop-length ranks)
 
 -- ---- ranks that fall nowhere
 pub falls-cons : (q r : ℕ) (rs : List ℕ) → falls_from q (r ∷ rs) ≡ false → (q ≤ r) × (falls_from r rs ≡ false)
@@ -95,6 +79,20 @@ unfolding falls_from
 rising_none [] q a h = refl
 rising_none (r ∷ rs) q a h =
     rw (le-ltb r q (a (omega arith))) (rising_none rs r (λ l. h 0 (omega arith)) (λ i l. rw (suc-add i 1) at (h (suc i) (omega arith))))
+
+-- so what sorts a list tells whether it falls
+pub sorted_rises : (rs : List ℕ) (r : Bool)
+    → MatchBool r (IsNonDecreasing rs) ((k : ℕ) × (k + 1 < length rs) × ((d : ℕ) → get_or rs (k + 1) d < get_or rs k d))
+    → not r ≡ falls_from 0 rs
+sorted_rises rs true h = sym (rising_none rs 0 (λ l. omega arith) (λ i l. h i (i + 1) 0 (omega arith) l))
+sorted_rises rs false h = sym (go (falls_from 0 rs) refl)
+  where
+    go : (b : Bool) → falls_from 0 rs ≡ b → falls_from 0 rs ≡ true
+    go true e = e
+    go false e =
+        let l = h.1 in
+        let d = rise_next rs 0 h.0 e (omega arith) in
+        absurd (omega (arith, rw add-one at (h.2 0), d))
 
 -- and where each is below N, none is too large
 pub below_none : (num : ℕ) (rs : List ℕ) → ((i : ℕ) → i < length rs → get_or rs i 0 < num) → any_too_large num rs ≡ false

@@ -1,142 +1,105 @@
--- One rank: what is in hand says the last bit, a reading that starts there or at the mark is the defined one, and it hands on
--- its own last bit and word.
-use mathlib.Core.Bool.{Bool, true, false, cond}
+-- One rank: a reading that starts at the last bit or at the mark is the defined one, and it hands on its own last bit and word.
+use mathlib.Core.Bool.{Bool, true, false, not, cond}
 use mathlib.Core.List.{List}
-use mathlib.Core.Option.{Option, none, some}
-use mathlib.Core.Path.{◌≡◌, refl, sym, subst, ◌∙◌}
-use Prim.Native.Nat.{ℕ, ◌+◌, ◌-◌, ◌*◌, ◌/◌, ◌≤◌, ◌<◌}
+use mathlib.Core.Option.{Option}
+use mathlib.Core.Path.{◌≡◌, sym, ap, ◌∙◌}
+use Prim.Native.Nat.{ℕ, ◌+◌, ◌-◌, ◌/◌, ◌≤◌, ◌<◌}
 use native.Mathlib.Omega.{arith}
-use lib.Dec.{eqb, ltb}
-use borrow.Author.Tests.{eq-eqb, eqb-true}
+use Rattle.std.specs.Prelude as std
+use Rattle.std.specs.Prelude.{Result, Ok, Err, IsErr, IsErrAnd}
+use Rattle.std.specs.Int.{from_bool}
+use Rattle.rank_sel.specs.Outcome.{Outcome, refused, number_of, and_then}
 use Rattle.rank_sel.specs.Rank.{ind}
 use Rattle.rank_sel.specs.Seek.{Sought}
+use Rattle.rank_sel.specs.declared.Refusal.{Refusal}
+use Rattle.rank_sel.specs.declared.Refusal.TheVariants.{CellsUnlawful}
 use Rattle.rank_sel.proofs.Seek.{seek_found}
-use Rattle.select_in_word.specs.Holds.{Holds}
 use Rattle.bit_record.specs.Record.{selected, Finds}
-use Rattle.bit_record.specs.declared.RecordSeek.{RecordSeek}
-use Rattle.bit_record.specs.declared.RecordSeek.TheVariants as RecordSeekVariants
+use Rattle.bit_record.specs.declared.Found.{Found}
 use Rattle.inventory.specs.declared.summary.Summary.{Summary}
-use Rattle.read_inventory.specs.Read.{Mark}
-use Rattle.read_inventory.specs.Steps.{MarkLow}
-use Rattle.read_inventory.specs.declared.decode.Marked.{Marked}
-use Rattle.read_inventory.specs.declared.decode.Marked.TheVariants as MarkedVariants
-use Rattle.read_inventory.proofs.Answers.{MarkRead, low_by}
-use Rattle.select_list.specs.Hand.{last_of, HandIn, is_later, start_as, Starts, Advances, Reads}
-use Rattle.select_list.specs.Step.{Reached, from_mark, start_of, of_last, in_hand, words_read, read_from, step_from, step_of}
-use Rattle.select_list.specs.declared.step.Advanced.{Advanced}
-use Rattle.select_list.specs.declared.step.Advanced.TheVariants.{To, Refused}
+use Rattle.read_inventory.specs.Read.{Mark, mark_of_rank}
+use Rattle.read_inventory.proofs.Answers.{MarkRead}
+use Rattle.select_list.specs.Hand.{last_of, HandIn, start_as, Starts, Advances, Reads}
+use Rattle.select_list.specs.Step.{Reached, in_hand, words_read, read_from, step_from, step_of}
+use Rattle.select_list.specs.declared.step.Advance.{Advance}
 use Rattle.select_list.specs.declared.step.Hand.{Hand}
 use Rattle.select_list.specs.declared.step.StartAt.{StartAt}
 
--- ---- where a reading starts
--- what is in hand is the last bit, and what holds of the one holds of the other
-last_is : (is : Reached → Bool) (h : Hand) → of_last is (last_of h) ≡ true
-    → (h.any ≡ true) × (is (record { at = h.at; rank = h.rank }) ≡ true)
-last_is is h e = go h.any refl e
-  where
-    go : (a : Bool) → h.any ≡ a → of_last is (cond a (some (record { at = h.at; rank = h.rank })) none) ≡ true
-        → (h.any ≡ true) × (is (record { at = h.at; rank = h.rank }) ≡ true)
-    go true a e = (a, e)
-    go false a e = let z : ◌≡◌ {A = ℕ} 0 1 = cc in absurd (omega arith)
-
-start_else : (last : Option Reached) (r : ℕ) (m : Mark) → is_later last m.at ≡ false → from_mark m ≡ start_of last r m
-start_else none r m e = refl
-start_else (some b) r m e = rw e
-
-module _ (f : ℕ → Bool) (len : ℕ) (h : Hand) (r mark k : ℕ) where
-  abbrev m : Mark
-  m = record { at = mark; residual = k; exact = false }
-
-  pub starts_last : HandIn f len h → is_later (last_of h) mark ≡ true
-      → Starts f len (last_of h) r m (record { from = h.at; passes = r - h.rank; word = h.word; fresh = 0 })
-  starts_last i e =
-      let w = last_is (λ b. ltb mark b.at) h e in
-      record {
-        start = rw (w.0, w.1);
-        begun = record { low = i.low w.0; once = omega arith; word = i.word w.0 };
-        fresh = rw (w.0, eq-eqb (h.at / 64) (h.at / 64) refl);
-      }
-
-  module _ (e : is_later (last_of h) mark ≡ false) (l : mark < len) where
-    pub starts_hand : HandIn f len h → in_hand (last_of h) mark ≡ true
-        → Starts f len (last_of h) r m (record { from = mark; passes = k; word = h.word; fresh = 0 })
-    starts_hand i d =
-        let w = last_is (λ b. eqb (mark / 64) (b.at / 64)) h d in
-        let same = eqb-true (mark / 64) (h.at / 64) w.1 in
-        record {
-          start = start_else (last_of h) r m e;
-          begun = record { low = l; once = omega arith; word = subst (λ (j : ℕ). Holds 64 f (64 * j) h.word) (sym same) (i.word w.0) };
-          fresh = rw d;
-        }
-
-    pub starts_fresh : (w : ℕ) → in_hand (last_of h) mark ≡ false → Holds 64 f (64 * (mark / 64)) w
-        → Starts f len (last_of h) r m (record { from = mark; passes = k; word = w; fresh = 1 })
-    starts_fresh w d i =
-        record { start = start_else (last_of h) r m e; begun = record { low = l; once = omega arith; word = i }; fresh = rw d }
-
 -- ---- a reading
-module _ (f : ℕ → Bool) (len r : ℕ) (s : StartAt) (x : RecordSeek) (found : Finds f (len - s.from) s.from s.passes x) where
-  pub read_none : (last : Option Reached) → x ≡ RecordSeekVariants.Nowhere → Advances f len r (read_from f len last r (start_as s)) Refused
+-- a start's word is counted where it was not in hand
+words_by : (last : Option Reached) (s : StartAt) (p : ℕ) → s.fresh ≡ not (in_hand last s.from) → s.from ≤ p
+    → p / 64 - s.from / 64 + from_bool s.fresh ≡ words_read last s.from p
+unfolding words_read
+words_by last s p d l = rw d (go (in_hand last s.from))
+  where
+    go : (b : Bool) → p / 64 - s.from / 64 + from_bool (not b) ≡ p / 64 - s.from / 64 + 1 - ind b
+    go true = omega arith
+    go false = omega arith
+
+module _ (f : ℕ → Bool) (len r : ℕ) (s : StartAt) where
+  pub read_none : Finds f (len - s.from) s.from s.passes std.None → (last : Option Reached)
+      → Advances f len r (read_from f len last r (start_as s)) (Err CellsUnlawful)
   unfolding read_from
-  read_none last e =
-      let d = subst (Finds f (len - s.from) s.from s.passes) e found in
-      record { told = rw (← d.position); hand = tt }
+  read_none at last = record { told = rw (← at.position); hand = tt }
 
-  module _ (p w : ℕ) (e : x ≡ RecordSeekVariants.At p w) where
-    at : Finds f (len - s.from) s.from s.passes (RecordSeekVariants.At p w)
-    at = subst (Finds f (len - s.from) s.from s.passes) e found
+  module _ (q : Found) (at : Finds f (len - s.from) s.from s.passes (std.Some q)) where
+    sought : Sought f (len - s.from) s.from s.passes q.position
+    sought = seek_found f (len - s.from) s.from s.passes q.position (sym at.position)
 
-    sought : Sought f (len - s.from) s.from s.passes p
-    sought = seek_found f (len - s.from) s.from s.passes p (sym at.position)
-
-    pub read_later : s.from ≤ p
+    pub read_later : s.from ≤ q.position
     read_later = sought.low
 
-    pub read_low : p < len
+    pub read_low : q.position < len
     read_low = omega (arith, sought.low, sought.high)
 
-    words : (last : Option Reached) → s.fresh + ind (in_hand last s.from) ≡ 1
-        → p / 64 - s.from / 64 + s.fresh ≡ words_read last s.from p
-    unfolding words_read
-    words last d = omega arith
-
-    pub read_at : (last : Option Reached) → s.fresh + ind (in_hand last s.from) ≡ 1
+    pub read_at : (last : Option Reached) → s.fresh ≡ not (in_hand last s.from)
         → Advances f len r (read_from f len last r (start_as s))
-        (To (record {
-          position = p;
-          words = p / 64 - s.from / 64 + s.fresh;
-          hand = record { any = true; at = p; rank = r; word = w };
+        (Ok (record {
+          position = q.position;
+          words = q.position / 64 - s.from / 64 + from_bool s.fresh;
+          hand = std.Some (record { at = q.position; rank = r; word = q.word });
         }))
     unfolding read_from
     read_at last d = record {
-      told = rw (← at.position, words last d);
-      hand = (record { low = λ a. read_low; word = λ a. at.word }, omega arith);
+      told = rw (← at.position, words_by last s q.position d read_later);
+      hand = record { low = read_low; before = omega arith; word = at.word };
     }
 
 -- ---- one rank
-module _ {t : Summary} {inv sp : List ℕ} {r : ℕ} {o : Marked} (w : MarkRead t inv sp r o) (ws : List ℕ) (h : Hand) where
+cond_else : {A : Type 0} (b : Bool) (x y : A) → b ≡ false → y ≡ cond b x y
+cond_else b x y e = rw e
+
+module _ (ws : List ℕ) (t : Summary) (inv sp : List ℕ) (r : ℕ) (h : std.Option Hand) where
   abbrev f : ℕ → Bool
   f = selected t.plan.polarity ws t.plan.len
 
   abbrev len : ℕ
   len = t.plan.len
 
-  pub step_none : o ≡ MarkedVariants.Refused → Advances f len r (step_of ws t inv sp (last_of h) r) Refused
+  -- a refused mark
+  pub step_none : (x : Result Advance Refusal) (e : Refusal) → IsErr x × IsErrAnd x (λ y. y ≡ e) → refused (number_of e) ≡ mark_of_rank t inv sp r
+      → Advances f len r (step_of ws t inv sp (last_of h) r) x
   unfolding step_of
-  step_none e = record { told = rw (← w.told, e); hand = tt }
+  step_none (Err y) e g n = record {
+    told = ap (λ (z : Refusal). refused (number_of z)) g.1
+        ∙ ap (λ (o : Outcome Mark). and_then o (step_from f len (last_of h) r)) n;
+    hand = tt;
+  }
+  step_none (Ok y) e g n = absurd g.1
 
-  module _ (p k : ℕ) (b : Bool) (e : o ≡ MarkedVariants.At p k b) where
-    pub step_exact : b ≡ true → HandIn f len h → h.rank ≤ r
-        → Advances f len r (step_of ws t inv sp (last_of h) r) (To (record { position = p; words = 0; hand = h }))
+  module _ (m : Mark) (w : MarkRead t inv sp r m) where
+    pub step_exact : m.exact ≡ true → HandIn f len r h
+        → Advances f len r (step_of ws t inv sp (last_of h) r) (Ok (record { position = m.at; words = 0; hand = h }))
     unfolding step_of step_from
-    step_exact d i l = record { told = rw (← w.told, e, d); hand = (i, l) }
+    step_exact d i = record { told = rw (← w.told, d); hand = i }
 
-    pub step_low : p < len
-    step_low = subst (MarkLow t.plan) e (low_by w)
-
-    pub step_read : b ≡ false → (s : StartAt) → Starts f len (last_of h) r (record { at = p; residual = k; exact = false }) s → (x : Advanced)
+    pub step_read : m.exact ≡ false → (s : StartAt) → Starts f len (last_of h) r m s → (x : Result Advance Refusal)
         → Reads f len r s x → Advances f len r (step_of ws t inv sp (last_of h) r) x
     unfolding step_of step_from
     step_read d s i x a =
         let y = a (last_of h) i.fresh in
-        record { told = y.told ∙ rw (← w.told, e, d, i.start); hand = y.hand }
+        record {
+          told = y.told ∙ ap (read_from f len (last_of h) r) i.start ∙ cond_else m.exact _ _ d
+              ∙ ap (λ (o : Outcome Mark). and_then o (step_from f len (last_of h) r)) w.told;
+          hand = y.hand;
+        }

@@ -12,24 +12,23 @@ use lib.Dec.{eqb, ltb}
 use lib.ListN.{length, get_or, drop, set, length-append, length-map}
 use lib.Seq.{drop-cons, drop-length}
 use borrow.Author.Tests.{ltb-false, eqb-true, eqb-false}
-use Rattle.rank_sel.specs.Outcome.{Outcome, answer, refused, or_refuse, and_then}
+use Rattle.std.specs.Prelude as std
+use Rattle.std.specs.Prelude.{Result, Ok, Err, IsErr, IsErrAnd}
+use Rattle.rank_sel.specs.Outcome.{Outcome, answer, refused, number_of, or_refuse, and_then}
 use Rattle.rank_sel.specs.Seek.{seek}
-use Rattle.rank_sel.specs.declared.Answer.TheVariants as AnswerVariants
-use Rattle.rank_sel.specs.declared.Refusal.TheVariants.{CellsUnlawful}
+use Rattle.rank_sel.specs.declared.Refusal.{Refusal}
 use Rattle.rank_sel.proofs.Outcome.{never, answer_is, then_answer}
 use Rattle.rank_sel.proofs.Seek.{answer_sought}
 use Rattle.bit_record.specs.Record.{selected, sample_at}
 use Rattle.inventory.specs.declared.summary.Summary.{Summary}
 use Rattle.read_inventory.specs.Read.{Mark, mark_of_rank}
 use Rattle.read_inventory.proofs.Answers.{mark_low}
-use Rattle.select_list.specs.Hand.{last_of, HandIn, step_by, stepped, Advances, Walkable, written, Wrote}
+use Rattle.select_list.specs.Hand.{last_of, HandIn, step_by, Advances, Walkable, written, Wrote}
 use Rattle.select_list.specs.List.{Walk, start, after, walk, samples_from}
 use Rattle.select_list.specs.Step.{Reached, Start, from_mark, start_of, words_read, Step, reached_by, read_from, step_at_mark, step_from, step_of}
 use Rattle.select_list.specs.declared.step.Advance.{Advance}
-use Rattle.select_list.specs.declared.step.Advanced.{Advanced}
-use Rattle.select_list.specs.declared.step.Advanced.TheVariants as AdvancedVariants
 use Rattle.select_list.specs.declared.step.Hand.{Hand}
-use Rattle.select_list.proofs.Written.{written_none, written_more, written_long}
+use Rattle.select_list.proofs.Written.{written_none, written_more}
 
 -- ---- the total: so many words are read, none past the last bit's
 abbrev pub Total : ℕ → Option Reached → ℕ → Type 0
@@ -94,6 +93,11 @@ step_kept ws t inv sp last r total x h e =
     let a = then_answer (mark_of_rank t inv sp r) (step_from f t.plan.len last r) x (sym e) in
     from_kept f t.plan.len last r total h x a.0.exact a.0 (mark_low t inv sp r a.0 a.1) a.2
 
+-- what is in hand for a rank is so for any later one
+hand_later : (f : ℕ → Bool) (len r q : ℕ) (h : std.Option Hand) → HandIn f len r h → r ≤ q → HandIn f len q h
+hand_later f len r q std.None i l = tt
+hand_later f len r q (std.Some h) i l = record { low = i.low; before = omega (arith, i.before, l); word = i.word }
+
 -- ---- after i ranks
 module _ (ws : List ℕ) (t : Summary) (inv sp ranks : List ℕ) where
   abbrev whole : Outcome Walk
@@ -107,67 +111,59 @@ module _ (ws : List ℕ) (t : Summary) (inv sp ranks : List ℕ) where
 
   module _ (l₀ : List ℕ) where
     -- so many positions are found and their samples written, and the walk goes on with the other ranks
-    pub record Stands (l : List ℕ) (h : Hand) (total i : ℕ) : Type 0 where
+    pub record Stands (l : List ℕ) (h : std.Option Hand) (total i : ℕ) : Type 0 where
       pub positions : List ℕ
       pub found : length positions ≡ i
       pub within : i ≤ length ranks
       pub goes : whole ≡ walk ws t inv sp (record { positions = positions; total = total; last = last_of h }) (drop i ranks)
       pub counted : Total t.plan.len (last_of h) total
-      pub hand : HandIn f t.plan.len h
-      pub before : i < length ranks → h.rank ≤ get_or ranks i 0
+      pub hand : i < length ranks → HandIn f t.plan.len (get_or ranks i 0) h
       pub places : l ≡ written (map sample positions) l₀
 
-    pub stands_first : Stands l₀ (record { any = false; at = 0; rank = 0; word = 0 }) 0 0
+    pub stands_first : Stands l₀ std.None 0 0
     stands_first = record {
       positions = [];
       found = refl;
       within = omega arith;
       goes = refl;
       counted = refl;
-      hand = record {
-        low = λ a. let z : ◌≡◌ {A = ℕ} 0 1 = cc in absurd (omega arith);
-        word = λ a. let z : ◌≡◌ {A = ℕ} 0 1 = cc in absurd (omega arith);
-      };
-      before = λ a. omega arith;
+      hand = λ a. tt;
       places = written_none l₀;
     }
 
-    module _ {l : List ℕ} {h : Hand} {total i : ℕ} (s : Stands l h total i) where
+    module _ {l : List ℕ} {h : std.Option Hand} {total i : ℕ} (s : Stands l h total i) where
       abbrev samples : List ℕ
       samples = map sample s.positions
-
-      pub stands_long : length l ≡ length l₀
-      stands_long = ap length s.places ∙ written_long samples l₀
 
       abbrev here : Walk
       here = record { positions = s.positions; total = total; last = last_of h }
 
-      pub stands_all : length ranks ≤ i → Wrote t.origin whole l₀ l (AnswerVariants.Value total)
+      pub stands_all : length ranks ≤ i → Wrote t.origin whole l₀ l (Ok total)
       unfolding walk
       stands_all g =
           let n : i ≡ length ranks = omega (arith, s.within) in
           let e : whole ≡ answer here = s.goes ∙ ap (walk ws t inv sp here) (ap (λ (j : ℕ). drop j ranks) n ∙ drop-length ranks) in
           record { told = rw e; places = λ w d. s.places ∙ ap (λ (u : Walk). written (samples_from t.origin u) l₀) (answer_is (sym e ∙ d)) }
 
-      module _ (g : i < length ranks) (x : Advanced)
-          (a : Advances f t.plan.len (get_or ranks i 0) (step_of ws t inv sp (last_of h) (get_or ranks i 0)) x) where
-        walk_next : whole ≡ and_then (stepped x) (λ y. walk ws t inv sp (after here y) (drop (suc i) ranks))
+      module _ (g : i < length ranks) where
+        abbrev step : Outcome Step
+        step = step_of ws t inv sp (last_of h) (get_or ranks i 0)
+
+        walk_next : (o : Outcome Step) → o ≡ step → whole ≡ and_then o (λ y. walk ws t inv sp (after here y) (drop (suc i) ranks))
         unfolding walk
-        walk_next =
+        walk_next o told =
             s.goes
             ∙ ap (walk ws t inv sp here) (drop-cons ranks i 0 g)
-            ∙ ap (λ (o : Outcome Step). and_then o (λ y. walk ws t inv sp (after here y) (drop (suc i) ranks))) (sym a.told)
+            ∙ ap (λ (p : Outcome Step). and_then p (λ y. walk ws t inv sp (after here y) (drop (suc i) ranks))) (sym told)
 
-        pub stands_refused : x ≡ AdvancedVariants.Refused → Wrote t.origin whole l₀ l (AnswerVariants.Refused CellsUnlawful)
-        stands_refused e =
-            let q : whole ≡ refused 10 = walk_next ∙ rw e in
-            record { told = rw q; places = λ w d. never (sym q ∙ d) }
+        pub stands_refused : (e : Refusal) → Advances f t.plan.len (get_or ranks i 0) step (Err e) → (x : Result ℕ Refusal)
+            → IsErr x × IsErrAnd x (λ z. z ≡ e) → Wrote t.origin whole l₀ l x
+        stands_refused e a (Err z) k =
+            let q : whole ≡ refused (number_of e) = walk_next (refused (number_of e)) a.told in
+            record { told = ap (λ (y : Refusal). refused (number_of y)) k.1 ∙ rw q; places = λ w d. never (sym q ∙ d) }
+        stands_refused e a (Ok z) k = absurd k.1
 
-        module _ (y : Advance) (e : x ≡ AdvancedVariants.To y) where
-          taken : Advances f t.plan.len (get_or ranks i 0) (step_of ws t inv sp (last_of h) (get_or ranks i 0)) (AdvancedVariants.To y)
-          taken =
-              subst (Advances f t.plan.len (get_or ranks i 0) (step_of ws t inv sp (last_of h) (get_or ranks i 0))) e a
-
+        module _ (y : Advance) (taken : Advances f t.plan.len (get_or ranks i 0) step (Ok y)) where
           kept : Kept t.plan.len total (step_by y)
           kept = step_kept ws t inv sp (last_of h) (get_or ranks i 0) total (step_by y) s.counted taken.told
 
@@ -183,10 +179,9 @@ module _ (ws : List ℕ) (t : Summary) (inv sp ranks : List ℕ) where
             positions = s.positions ++ (y.position ∷ []);
             found = length-append s.positions (y.position ∷ []) ∙ omega (arith, s.found);
             within = omega arith;
-            goes = rw (add-one i) (walk_next ∙ rw e);
+            goes = rw (add-one i) (walk_next (answer (step_by y)) taken.told);
             counted = kept.0;
-            hand = taken.hand.0;
-            before = λ j. omega (arith, taken.hand.1, k.rising i j);
+            hand = λ j. hand_later f t.plan.len (get_or ranks i 0) (get_or ranks (i + 1) 0) y.hand taken.hand (k.rising i j);
             places =
                 el
                 ∙ ap (λ (z : List ℕ). set z i (sample y.position)) s.places

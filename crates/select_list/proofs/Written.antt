@@ -1,17 +1,10 @@
 -- Positions written one after another over what was there: as far as there is room, they stand in front.
 use mathlib.Core.List.{List, [], ◌∷◌, ◌++◌}
-use mathlib.Core.Path.{◌≡◌, refl, sym, ap, ◌∙◌}
-use Prim.Native.Nat.{ℕ, zero, suc, ◌+◌, ◌≤◌, ◌<◌}
-use native.Mathlib.Numerals.{add-one}
+use mathlib.Core.Path.{◌≡◌, refl, ap}
+use Prim.Native.Nat.{ℕ, ◌≤◌}
 use native.Mathlib.Omega.{arith}
-use lib.ListN.{length, get_or, take, drop, set}
-use lib.Seq.{take-suc, length-take-le}
+use lib.ListN.{length, take, drop, set}
 use Rattle.select_list.specs.Hand.{written}
-
-pub set_past : (l : List ℕ) (i v : ℕ) → length l ≤ i → l ≡ set l i v
-set_past [] i v h = refl
-set_past (y ∷ l) zero v h = absurd (omega arith)
-set_past (y ∷ l) (suc i) v h = ap (λ (x : List ℕ). y ∷ x) (set_past l i v (omega arith))
 
 pub written_none : (l : List ℕ) → l ≡ written [] l
 unfolding written
@@ -24,13 +17,6 @@ written_more [] [] v = refl
 written_more [] (y ∷ l) v = ap (λ (x : List ℕ). v ∷ x) (written_none l)
 written_more (p ∷ ps) [] v = refl
 written_more (p ∷ ps) (y ∷ l) v = ap (λ (x : List ℕ). p ∷ x) (written_more ps l v)
-
-pub written_long : (ps l : List ℕ) → length (written ps l) ≡ length l
-unfolding written
-written_long [] [] = refl
-written_long [] (y ∷ l) = refl
-written_long (p ∷ ps) [] = refl
-written_long (p ∷ ps) (y ∷ l) = ap suc (written_long ps l)
 
 pub written_front : (ps l : List ℕ) → length ps ≤ length l → written ps l ≡ ps ++ drop (length ps) l
 unfolding written
@@ -45,13 +31,3 @@ written_back [] [] h = refl
 written_back [] (y ∷ l) h = refl
 written_back (p ∷ ps) [] h = absurd (omega arith)
 written_back (p ∷ ps) (y ∷ l) h = ap (λ (x : List ℕ). p ∷ x) (written_back ps l (omega arith))
-
--- one more of those that are held aside
-pub written_next : (held l₀ l l' : List ℕ) (i : ℕ) → i < length held → l ≡ written (take i held) l₀ → l' ≡ set l i (get_or held i 0)
-    → l' ≡ written (take (i + 1) held) l₀
-written_next held l₀ l l' i h e d =
-    d
-    ∙ ap (λ (x : List ℕ). set x i (get_or held i 0)) e
-    ∙ ap (λ (j : ℕ). set (written (take i held) l₀) j (get_or held i 0)) (sym (length-take-le i held (omega arith)))
-    ∙ written_more (take i held) l₀ (get_or held i 0)
-    ∙ ap (λ (x : List ℕ). written x l₀) (sym (rw (add-one i) (take-suc held i 0 h)))

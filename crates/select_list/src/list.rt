@@ -1,15 +1,15 @@
 // The list: the sample numbers of all its positions, or none.
-ghost use Rattle.std.specs.Prelude.{◌≡◌, ◌≤◌, length, set, take};
-ghost use Rattle.rank_sel.specs.Outcome.{answered};
+ghost use Rattle.std.specs.Prelude.{◌≡◌, ◌≤◌, length, set};
+ghost use Rattle.rank_sel.specs.Outcome.{outcome};
 ghost use Rattle.bit_record.specs.Record.{AdmittedFrom};
-ghost use Rattle.select_list.specs.Hand.{Placed, Walkable, Wrote, written};
+ghost use Rattle.select_list.specs.Hand.{Placed, Walkable, Wrote};
 ghost use Rattle.select_list.specs.List.{list_of, places_after, start, total_of, walk, walk_of};
 
-use crate::step::{Advanced, Hand, step_to};
+use crate::step::step_to;
 use crate::tests::test_call;
 use bit_record::sample_at;
 use inventory::Summary;
-use rank_sel::{Answer, Refusal, Tested, reason};
+use rank_sel::Refusal;
 
 // The samples that are held aside until the last is known: as many as the screen asks for, and some.
 const HELD: usize = 64;
@@ -18,6 +18,7 @@ const HELD: usize = 64;
 fn put(places: &mut [u64], i: usize, sample: u64)
     ensures { places.new ≡ set places.old i sample }
 {
+    // By an index: std's `get_mut` of a slice does not say what it leaves there.
     if i < places.len() {
         places[i] = sample;
     }
@@ -31,41 +32,19 @@ fn walk_into(
     spill: &[u64],
     ranks: &[u64],
     places: &mut [u64],
-) -> Answer
+) -> Result<u64, Refusal>
     requires { AdmittedFrom words.now summary.plan.len summary.origin × Walkable summary inventory.now spill.now ranks.now }
     ensures { Wrote summary.origin (walk words.now summary inventory.now spill.now start ranks.now) places.old places.new result }
 {
-    let n = ranks.len();
-    let mut hand = Hand {
-        any: false,
-        at: 0,
-        rank: 0,
-        word: 0,
-    };
-    let mut total: u64 = 0;
-    let mut i: usize = 0;
-    while i < n {
-        let Advanced::To(step) = step_to(words, summary, inventory, spill, hand, ranks[i]) else {
-            return Answer::Refused(Refusal::CellsUnlawful);
-        };
+    let mut hand = None;
+    let mut total = 0;
+    for (i, rank) in ranks.iter().enumerate() {
+        let step = step_to(words, summary, inventory, spill, hand, *rank)?;
         put(places, i, sample_at(summary.origin, step.position));
         total += step.words;
         hand = step.hand;
-        i += 1;
     }
-    Answer::Value(total)
-}
-
-// Writes the first n that are held aside.
-fn put_first(held: &[u64], n: usize, places: &mut [u64])
-    requires { n ≤ length held.now }
-    ensures { places.new ≡ written (take n held.now) places.old }
-{
-    let mut i: usize = 0;
-    while i < n {
-        put(places, i, held[i]);
-        i += 1;
-    }
+    Ok(total)
 }
 
 // A list is walked without writing into its places, which are written once its last position is known: from those held
@@ -77,20 +56,18 @@ fn place_all(
     spill: &[u64],
     ranks: &[u64],
     places: &mut [u64],
-) -> Answer
+) -> Result<u64, Refusal>
     requires { AdmittedFrom words.now summary.plan.len summary.origin × Walkable summary inventory.now spill.now ranks.now × (length ranks.now ≤ length places.old) }
     ensures { Placed (walk_of words.now summary inventory.now spill.now ranks.now) places.old places.new result }
 {
     let mut held = [0u64; HELD];
-    let walked = walk_into(words, summary, inventory, spill, ranks, &mut held);
-    let Answer::Value(total) = walked else {
-        return walked;
-    };
-    if HELD < ranks.len() {
+    let total = walk_into(words, summary, inventory, spill, ranks, &mut held)?;
+    let n = ranks.len();
+    if HELD < n {
         return walk_into(words, summary, inventory, spill, ranks, places);
     }
-    put_first(&held, ranks.len(), places);
-    Answer::Value(total)
+    places[..n].copy_from_slice(&held[..n]);
+    Ok(total)
 }
 
 // The samples of a list of ranks, in `places`; the answer is the total of words read.
@@ -101,13 +78,10 @@ pub fn select_list(
     spill: &[u64],
     ranks: &[u64],
     places: &mut [u64],
-) -> Answer
-    ensures total { answered result ≡ total_of (list_of words.now summary inventory.now spill.now ranks.now (length places.old)) }
+) -> Result<u64, Refusal>
+    ensures total { outcome result ≡ total_of (list_of words.now summary inventory.now spill.now ranks.now (length places.old)) }
     ensures places { places.new ≡ places_after (list_of words.now summary inventory.now spill.now ranks.now (length places.old)) places.old }
 {
-    let tested = test_call(words, summary, inventory, spill, ranks, places.len());
-    let Tested::Passed = tested else {
-        return Answer::Refused(reason(tested));
-    };
+    test_call(words, summary, inventory, spill, ranks, places.len())?;
     place_all(words, summary, inventory, spill, ranks, places)
 }

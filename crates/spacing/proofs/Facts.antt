@@ -1,11 +1,11 @@
 -- What holds of every plan that is answered: the record passed the count's tests, the choice those of its rule.
-use Rattle.std.proofs.Common.{◌≡◌, ℕ, ◌-◌, ◌^◌, ◌<◌, ◌≤◌, min, max, false, List, refl, ◌∙◌, subst, ap₂, le_trans, arith, pow_mono, ltb-false}
+use Rattle.std.proofs.Common.{◌≡◌, [], ◌∷◌, nat_lt, ℕ, ◌-◌, ◌^◌, ◌<◌, ◌≤◌, min, max, false, List, refl, ◌∙◌, subst, ap₂, le_trans, arith, pow_mono, ltb-false}
 use native.Mathlib.Nat.{min-le_left}
 use lib.Ieee.{Float}
 use lib.Ieee.Casts.{to_unsigned-lt}
 use Rattle.rank_sel.specs.Numbers.{clog2}
-use Rattle.rank_sel.specs.Outcome.{answer}
-use Rattle.rank_sel.proofs.Outcome.{answer_is, then_answer, passed_all}
+use Rattle.rank_sel.specs.Outcome.{answer, test_by}
+use Rattle.rank_sel.proofs.Outcome.{answer_is, then_answer, passed_all, passed_none}
 use Rattle.bit_record.specs.Record.{num_selected, count_of, Admitted}
 use Rattle.bit_record.specs.declared.Polarity.{Polarity}
 use Rattle.bit_record.proofs.Counted.{counted}
@@ -83,3 +83,7 @@ plan_num ws len pol p c = c.of.num ∙ ap₂ (λ (o : Polarity) (l : ℕ). num_s
 
 pub plan_admitted : (ws : List ℕ) (len : ℕ) (pol : Polarity) (p : Parameters) → PlanFacts ws len pol p → Admitted ws len
 plan_admitted ws len pol p c = subst (Admitted ws) c.length c.of.admitted
+
+-- a limit that its test let pass
+pub within_words : (m : ℕ) → answer tt ≡ test_by ((nat_lt max_log2_words m, 4) ∷ []) → nat_lt max_log2_words m ≡ false
+within_words m e = (passed_none ((nat_lt max_log2_words m, 4) ∷ []) e).0

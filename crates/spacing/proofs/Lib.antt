@@ -1,4 +1,3 @@
 pub mod Floats
-pub mod Products
 pub mod Span
 pub mod Facts

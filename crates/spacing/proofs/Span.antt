@@ -1,8 +1,7 @@
 -- L of a span, by products.
-use Rattle.std.proofs.Common.{◌≡◌, ℕ, ◌+◌, ◌-◌, ◌*◌, ◌%◌, ◌^◌, ◌<◌, ◌≤◌, max, Bool, true, false, ltb, sym, ap, ◌∙◌, mul-le-mul_right, mul_comm, div-lt_iff_lt-mul, add-mul, le_antisymm, le-div_iff_mul-le, arith, pow_pos, pow_mono, ltb-false, ltb-true}
+use Rattle.std.proofs.Common.{◌≡◌, ℕ, ◌+◌, ◌-◌, ◌*◌, ◌^◌, ◌<◌, ◌≤◌, max, ap, mul-le-mul_right, mul_comm, div-lt_iff_lt-mul, add-mul, le_antisymm, le-div_iff_mul-le, arith, pow_pos, pow_mono}
 use Rattle.rank_sel.specs.Numbers.{ceil_div, ilog2}
 use Rattle.rank_sel.proofs.Numbers.{ilog2_most, ilog2_least}
-use Rattle.rank_sel.proofs.Shift.{shl_one}
 use Rattle.spacing.specs.Spacing.{span_log2}
 
 -- a ceiling is above k exactly where what it rounds is
@@ -50,27 +49,12 @@ span_most num span len h f =
     within : (k s : ℕ) → k ≤ s → s < 2 ^ 64 → max 1 k < 2 ^ (63 + 1)
     within k s a b = omega arith
 
--- what one comparison says of L, where L is at most l
-pub record Turn (num span len l : ℕ) (less : Bool) : Type 0 where
-  pub found : less ≡ true → l ≡ span_log2 num span len
-  pub passed : less ≡ false → 0 < l → span_log2 num span len ≤ l - 1
+-- what one comparison of products says of L: where it holds, L is l, if it is at most that; else it is less
+module _ (num span len l : ℕ) where
+  pub span_here : (2 ^ l - 1) * max 1 len < num * span → span_log2 num span len ≤ l → l ≡ span_log2 num span len
+  unfolding span_log2
+  span_here a u = le_antisymm (log2_here (num * span) (max 1 len) l (one_pos len) a) u
 
--- w and p are the two products
-pub span_turn :
-    (num span len l w p d : ℕ) (less : Bool)
-    → l < 64
-    → d ≡ max 1 len
-    → w ≡ (1 * 2 ^ l % 2 ^ 64 - 1) * d
-    → p ≡ num * span
-    → less ≡ ltb w p
-    → span_log2 num span len ≤ l
-    → Turn num span len l less
-unfolding span_log2
-span_turn num span len l w p d less k e q r t u =
-    let s : less ≡ ltb ((2 ^ l - 1) * max 1 len) (num * span) = t ∙ rw (q, e, r, shl_one l k) in
-    record {
-      found =
-          λ a. le_antisymm
-          (log2_here (num * span) (max 1 len) l (one_pos len) (ltb-true ((2 ^ l - 1) * max 1 len) (num * span) (sym s ∙ a))) u;
-      passed = λ a o. log2_below (num * span) (max 1 len) l (one_pos len) o (ltb-false ((2 ^ l - 1) * max 1 len) (num * span) (sym s ∙ a));
-    }
+  pub span_below : 0 < l → num * span ≤ (2 ^ l - 1) * max 1 len → span_log2 num span len ≤ l - 1
+  unfolding span_log2
+  span_below o a = log2_below (num * span) (max 1 len) l (one_pos len) o a

@@ -4,13 +4,11 @@ use Rattle.std.specs.Float.{binary64}
 use Rattle.std.specs.Float.Ieee.{of_int, mul, div, to_unsigned}
 use Rattle.std.specs.Float.Ieee.Positive.{positive}
 use Rattle.rank_sel.specs.Numbers.{ceil_div, ilog2, clog2}
-use Rattle.rank_sel.specs.Outcome.{Outcome, answer, refused, number_of, Conditions, refuse_by, and_then}
+use Rattle.rank_sel.specs.Outcome.{Outcome, answer, Conditions, refuse_by, and_then}
 use Rattle.bit_record.specs.Record.{num_selected, count_of, Admitted}
 use Rattle.bit_record.specs.declared.Polarity.{Polarity}
 use Rattle.spacing.specs.declared.Choice.{Choice}
 use Rattle.spacing.specs.declared.Choice.TheVariants.{Default, Span, Power, Overhead, Fixed}
-use Rattle.spacing.specs.declared.Planned.{Planned}
-use Rattle.spacing.specs.declared.Planned.TheVariants as PlannedVariants
 use Rattle.spacing.specs.declared.Parameters.{Parameters}
 
 -- document 01's letters
@@ -114,10 +112,6 @@ chosen_plan pol len num r = refuse_by (of_rule num len r) (answer (plan_for pol 
 
 unfoldable pub plan_of : List ℕ → ℕ → Polarity → Choice → Outcome Parameters
 plan_of ws len pol choice = and_then (count_of ws len pol) (λ num. chosen_plan pol len num (rule choice))
-
-abbrev pub planned : Planned → Outcome Parameters
-planned (PlannedVariants.Plan p) = answer p
-planned (PlannedVariants.Refused r) = refused (number_of r)
 
 -- p is a plan of this record: what holds of whatever `plan` answers
 pub record PlanOf (ws : List ℕ) (p : Parameters) : Type 0 where

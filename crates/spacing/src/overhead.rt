@@ -4,8 +4,6 @@ ghost use Rattle.std.specs.Float.Ieee.{to_unsigned};
 ghost use Rattle.std.specs.Float.Ieee.Positive.{positive};
 ghost use Rattle.spacing.specs.Spacing.{max_log2_words as largest_log2_words, overhead_span};
 
-use rank_sel::max;
-
 // Finite, and above 0.
 pub fn is_positive(x: f64) -> bool
     ensures { result ≡ positive x }
@@ -50,5 +48,5 @@ pub fn target_span_from_overhead(percentage: f64, max_log2_words: u32) -> u64
 {
     let m = 1u64 << max_log2_words;
     let target = std::num::nearest_u64_to_f64(1 + m) * 64.0 * 100.0 / percentage;
-    max(saturating_f64_to_u64(target), 256 * m)
+    saturating_f64_to_u64(target).max(256 * m)
 }

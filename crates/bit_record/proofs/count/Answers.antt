@@ -1,37 +1,42 @@
 -- Past the test the record's whole words are counted, and the bits of a last word beyond them; from len on the rank is N.
-use mathlib.Core.Path.{◌≡◌, ap, ◌∙◌}
+use mathlib.Core.Path.{◌≡◌, sym, ap, ◌∙◌}
 use Prim.Native.Nat.{ℕ, ◌+◌, ◌*◌, ◌/◌}
 use native.Mathlib.Omega.{arith}
-use Rattle.rank_sel.specs.Outcome.{answer}
+use lib.ListN.{get_or}
+use Rattle.std.proofs.lemmas.List.{get_or-take, length-take-le}
+use Rattle.rank_sel.specs.Outcome.{answer, NoneOf}
 use Rattle.rank_sel.specs.Rank.{rank}
-use Rattle.rank_sel.proofs.Outcome.{Tells, passed_none, passed_then, stopped_then}
+use Rattle.rank_sel.proofs.Outcome.{passing, passed_none, tests_handed_on}
 use Rattle.rank_sel.proofs.Rank.{rank-zero}
 use Rattle.select_in_word.proofs.Holds.{holds_ones}
-use Rattle.bit_record.specs.Record.{selected, num_selected, of_record, count_of, Admitted}
+use Rattle.bit_record.specs.Record.{selected, num_selected, of_record, count_of, Admitted, CountsWords}
 use Rattle.bit_record.proofs.Counted.{admitted, from_zero}
-use Rattle.bit_record.proofs.Record.{rank_num, words_most}
-use Rattle.bit_record.proofs.count.Goals.{After-count_words-total, After-test_record-tested, In-Passed}
+use Rattle.bit_record.proofs.Record.{rank_num, words_most, words_part}
+use Rattle.bit_record.proofs.count.Goals.{After-count_words-total, In_ok-test_record}
 use Rattle.bit_record.proofs.count.Goals as goal
 
--- the test has spoken
-module _ (c : After-test_record-tested) where
-  told : let a = c.args in Tells (of_record a.words.now a.len) c.test_record-tested.result
-  told = let a = c.args in record { told = c.test_record-tested.ensures ∙ from_zero a.words.now a.len }
+-- the test was passed
+module _ (c : In_ok-test_record) where
+  none : NoneOf (of_record c.args.words.now c.args.len)
+  none = passed_none (of_record c.args.words.now c.args.len) (c.in_ok-test_record.ensures ∙ from_zero c.args.words.now c.args.len)
 
--- it was passed
-module _ (c : In-Passed) where
   held : Admitted c.args.words.now c.args.len
-  held = admitted _ _ (passed_none (told (goal.at.In-Passed c).After-test_record-tested) c.in-Passed.is)
+  held = admitted _ _ none
 
   answers : let a = c.args in
       (n : ℕ) → n ≡ num_selected a.polarity a.words.now a.len → answer n ≡ count_of a.words.now a.len a.polarity
   unfolding count_of
-  answers n e =
-      let a = c.args in
-      ap answer e ∙ passed_then (told (goal.at.In-Passed c).After-test_record-tested) c.in-Passed.is (answer (num_selected a.polarity a.words.now a.len))
+  answers n e = let a = c.args in ap answer e ∙ sym (passing (of_record a.words.now a.len) _ none)
 
 -- the whole words are counted
 module _ (c : After-count_words-total) where
+  counts : CountsWords c.args.polarity c.args.words.now 0 (c.args.len / 64) c.count_words-total.result
+  counts =
+      let a = c.args in
+      let h = held (goal.at.After-count_words-total c).In_ok-test_record in
+      words_part a.polarity a.words.now _ 0 (a.len / 64) _ (length-take-le (a.len / 64) a.words.now (omega (arith, h.held)))
+      (λ q l. get_or-take (a.len / 64) a.words.now q 0 l ∙ ap (λ (j : ℕ). get_or a.words.now j 0) (omega arith)) c.count_words-total.ensures
+
   whole : c.count_words-total.result ≡ rank (selected c.args.polarity c.args.words.now c.args.len)
       (64 * (c.args.len / 64))
   whole =
@@ -39,37 +44,44 @@ module _ (c : After-count_words-total) where
       let f = selected a.polarity a.words.now a.len in
       let z : rank f (64 * 0) ≡ 0 = rank-zero f in
       let e : rank f (64 * (0 + a.len / 64)) ≡ rank f (64 * (a.len / 64)) = ap (rank f) (omega arith) in
-      omega (arith, c.count_words-total.ensures.exact a.len (omega arith))
+      omega (arith, counts.exact a.len (omega arith))
 
-pub returns-in_default : goal.returns-in_default
+pub returns-in_err-test_record : goal.returns-in_err-test_record
 unfolding count_of
-returns-in_default c =
+returns-in_err-test_record c =
     let a = c.args in
-    stopped_then (told (goal.at.returns-in_default c).After-test_record-tested) c.reason.result c.in_default.is c.reason.ensures
-    (answer (num_selected a.polarity a.words.now a.len))
+    tests_handed_on _ _ c.from_residual.ensures (of_record a.words.now a.len) (c.in_err-test_record.ensures ∙ from_zero a.words.now a.len) _
+
+pub slice_bounds-count_words-end : goal.slice_bounds-count_words-end
+slice_bounds-count_words-end c =
+    let a = c.args in
+    let h = held (goal.at.slice_bounds-count_words-end c).In_ok-test_record in
+    omega (arith, length-take-le (a.len / 64) a.words.now (omega (arith, h.held)))
 
 pub count_words-total-requires : goal.count_words-total-requires
 count_words-total-requires c =
-    let h = held c in omega (arith, h.short, h.held)
+    let a = c.args in
+    let h = held (goal.at.count_words-total-requires c).In_ok-test_record in
+    omega (arith, h.short, length-take-le (a.len / 64) a.words.now (omega (arith, h.held)))
 
 pub returns-then-len-eq0 : goal.returns-then-len-eq0
 returns-then-len-eq0 c =
     let a = c.args in
-    answers (goal.at.returns-then-len-eq0 c).In-Passed c.count_words-total.result
+    answers (goal.at.returns-then-len-eq0 c).In_ok-test_record c.count_words-total.result
     (whole (goal.at.returns-then-len-eq0 c).After-count_words-total ∙ rank_num a.polarity a.words.now a.len (64 * (a.len / 64)) (omega arith))
 
 pub selected_word-requires : goal.selected_word-requires
 selected_word-requires c =
-    let h = held (goal.at.selected_word-requires c).In-Passed in omega (arith, h.short, h.held)
+    let h = held (goal.at.selected_word-requires c).In_ok-test_record in omega (arith, h.short, h.held)
 
 pub overflow_add-result : goal.overflow_add-result
 overflow_add-result c =
     let a = c.args in
     omega (
       arith,
-      (held (goal.at.overflow_add-result c).In-Passed).short,
+      (held (goal.at.overflow_add-result c).In_ok-test_record).short,
       c.count_ones.ensures.most,
-      words_most a.polarity a.words.now 0 (a.len / 64) c.count_words-total.result c.count_words-total.ensures,
+      words_most a.polarity a.words.now 0 (a.len / 64) c.count_words-total.result (counts (goal.at.overflow_add-result c).After-count_words-total),
     )
 
 pub returns : goal.returns
@@ -77,7 +89,7 @@ returns c =
     let a = c.args in
     let f = selected a.polarity a.words.now a.len in
     let h = holds_ones 64 f (64 * (a.len / 64)) c.selected_word.result c.selected_word.ensures in
-    answers (goal.at.returns c).In-Passed _
+    answers (goal.at.returns c).In_ok-test_record _
     (omega (
       arith,
       h,

@@ -1,10 +1,31 @@
 use mathlib.Core.Path.{◌≡◌, ap, ◌∙◌}
-use Prim.Native.Nat.{◌*◌, ◌%◌, ◌^◌}
+use Prim.Native.Nat.{ℕ, ◌+◌, ◌-◌, ◌*◌, ◌/◌, ◌%◌, ◌^◌}
 use native.Mathlib.Omega.{arith}
 use lib.Count.{ones}
-use Rattle.bit_record.specs.Record.{selected}
+use lib.ListN.{drop}
+use Rattle.std.proofs.lemmas.List.{get_or-take, get_or-drop, length-take-le, length-drop}
+use Rattle.rank_sel.specs.Rank.{rank}
+use Rattle.bit_record.specs.Record.{selected, CountsWords}
+use Rattle.bit_record.proofs.Record.{words_part}
 use Rattle.bit_record.proofs.Seek.{finds_none, finds_on, before_from}
+use Rattle.bit_record.proofs.seek_far.Goals.{After-count_words-ones}
 use Rattle.bit_record.proofs.seek_far.Goals as goal
+
+-- a block is counted
+module _ (c : After-count_words-ones) where
+  abbrev start : ℕ
+  start = c.args.from / 64 + 8 * c.loop-block.block
+
+  counts : let a = c.args in CountsWords a.polarity a.words.now start 8 c.count_words-ones.result
+  counts =
+      let a = c.args in
+      let n : start + 8 - start ≡ 8 = omega arith in
+      words_part a.polarity a.words.now _ start 8 _
+      (length-take-le (start + 8 - start) (drop start a.words.now)
+      (omega (arith, length-drop start a.words.now, c.requires.0.held, c.loop-block.auto.block-end))
+      ∙ n)
+      (λ q l. get_or-take (start + 8 - start) (drop start a.words.now) q 0 (omega arith) ∙ get_or-drop start a.words.now q 0)
+      c.count_words-ones.ensures
 
 pub returns-then-len-from : goal.returns-then-len-from
 returns-then-len-from c =
@@ -19,56 +40,38 @@ pub overflow_add-remaining : goal.overflow_add-remaining
 overflow_add-remaining c =
     omega (arith, c.count_ones.ensures.most)
 
-pub loop-i-init : goal.loop-i-init
-loop-i-init c =
+pub loop-block-init : goal.loop-block-init
+loop-block-init c =
     let a = c.args in
     let w = c.selected_word.result in
+    let f = selected a.polarity a.words.now a.len in
     let e : c.count_ones.result ≡ ones (w % 2 ^ (a.from % 64)) = c.count_ones.ensures.exact
     ∙ ap ones c.low_bits-skipped.ensures in
-    omega (arith, before_from (selected a.polarity a.words.now a.len) a.from w c.selected_word.ensures)
-
-pub overflow_add-i : goal.overflow_add-i
-overflow_add-i c =
-    omega (arith, c.requires.0.short)
-
-pub count_words-ones-requires : goal.count_words-ones-requires
-count_words-ones-requires c =
-    omega (arith, c.requires.0.short, c.requires.0.held)
-
-pub overflow_mul-i : goal.overflow_mul-i
-overflow_mul-i c =
-    omega (arith, c.requires.0.short)
-
-pub seek_from-requires : goal.seek_from-requires
-seek_from-requires c =
-    c.requires.0
+    let z : rank f (64 * (a.from / 64 + 8 * 0)) ≡ rank f (64 * (a.from / 64)) = ap (rank f) (omega arith) in
+    omega (arith, z, before_from f a.from w c.selected_word.ensures)
 
 pub returns-then-remaining-ones : goal.returns-then-remaining-ones
 returns-then-remaining-ones c =
     let a = c.args in
-    let l = c.loop-i in
-    finds_on a.polarity a.words.now a.len a.from a.k (64 * l.i) l.remaining c.seek_from.result (omega arith) l.invariant.1
-    c.seek_from.ensures
+    let l = c.loop-block in
+    finds_on a.polarity a.words.now a.len a.from a.k (64 * (a.from / 64 + 8 * l.block)) l.remaining c.seek_from.result (omega arith)
+    l.invariant c.seek_from.ensures
 
-pub overflow_add-i-in-loop-i : goal.overflow_add-i-in-loop-i
-overflow_add-i-in-loop-i c =
-    omega (arith, c.requires.0.short)
-
-pub loop-i-preserved : goal.loop-i-preserved
-loop-i-preserved c =
-    omega (arith, c.count_words-ones.ensures.exact c.args.len (omega arith))
-
-pub overflow_mul-i-2 : goal.overflow_mul-i-2
-overflow_mul-i-2 c =
-    omega (arith, c.requires.0.short)
-
-pub seek_from-requires-2 : goal.seek_from-requires-2
-seek_from-requires-2 c =
-    c.requires.0
+pub loop-block-preserved : goal.loop-block-preserved
+loop-block-preserved c =
+    let a = c.args in
+    let f = selected a.polarity a.words.now a.len in
+    let n = counts (goal.at.loop-block-preserved c).After-count_words-ones in
+    let i = a.from / 64 + 8 * c.loop-block.block in
+    let e : rank f (64 * (a.from / 64 + 8 * (c.loop-block.block + 1))) ≡ rank f (64 * (i + 8)) = ap (rank f) (omega arith) in
+    omega (arith, e, n.exact a.len (omega (arith, c.loop-block.auto.block-end)))
 
 pub returns : goal.returns
 returns c =
     let a = c.args in
-    let l = c.loop-i in
-    finds_on a.polarity a.words.now a.len a.from a.k (64 * l.i) l.remaining c.seek_from-2.result (omega arith) l.invariant.1
+    let l = c.loop-block in
+    let f = selected a.polarity a.words.now a.len in
+    let blocks = (a.len / 64 - a.from / 64) / 8 in
+    let e : rank f (64 * (a.from / 64 + 8 * blocks)) ≡ rank f (64 * (a.from / 64 + 8 * l.block)) = ap (rank f) (omega arith) in
+    finds_on a.polarity a.words.now a.len a.from a.k _ l.remaining c.seek_from-2.result (omega arith) (omega (arith, e, l.invariant))
     c.seek_from-2.ensures

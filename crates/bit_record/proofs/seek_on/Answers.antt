@@ -14,18 +14,18 @@ module _ (c : After-seek_near) where
   told : Told
   told = record { low = c.requires.1; word = c.requires.2; told = c.seek_near.ensures }
 
-pub overflow_add-result : goal.overflow_add-result
-overflow_add-result c =
-    omega (arith, here_small _ _ _ _ _ _ _ (told (goal.at.overflow_add-result c).After-seek_near) _ c.in-At.is, c.requires.0.short)
+pub overflow_add-position : goal.overflow_add-position
+overflow_add-position c =
+    omega (arith, here_small _ _ _ _ _ _ _ (told (goal.at.overflow_add-position c).After-seek_near) _ c.in-Ok.is, c.requires.0.short)
 
 pub overflow_sub-k : goal.overflow_sub-k
 overflow_sub-k c =
-    past_less _ _ _ _ _ _ _ (told (goal.at.overflow_sub-k c).After-seek_near) _ c.in-Past.is
+    past_less _ _ _ _ _ _ _ (told (goal.at.overflow_sub-k c).After-seek_near) _ c.in-Err.is
 
-pub returns-in-At : goal.returns-in-At
-returns-in-At c =
-    here_finds _ _ _ _ _ _ _ (told (goal.at.returns-in-At c).After-seek_near) _ c.in-At.is
+pub returns-in-Ok : goal.returns-in-Ok
+returns-in-Ok c =
+    here_finds _ _ _ _ _ _ _ (told (goal.at.returns-in-Ok c).After-seek_near) _ c.in-Ok.is
 
-pub returns-in-Past : goal.returns-in-Past
-returns-in-Past c =
-    past_finds _ _ _ _ _ _ _ (told (goal.at.returns-in-Past c).After-seek_near) _ c.in-Past.is c.seek_from.result c.seek_from.ensures
+pub returns-in-Err : goal.returns-in-Err
+returns-in-Err c =
+    past_finds _ _ _ _ _ _ _ (told (goal.at.returns-in-Err c).After-seek_near) _ c.in-Err.is c.seek_from.result c.seek_from.ensures

@@ -1,23 +1,41 @@
--- A summary that `admit` answers has room for its index, and `compare` holds the given one and the cells to it; a refusal stays.
-use mathlib.Core.Path.{sym, ap, ◌∙◌}
-use Rattle.build_inventory.specs.Build.{built, check_of}
-use Rattle.build_inventory.proofs.Outcomes.{admission}
+-- A summary that `admit` answers has room for its index, and the given one and the cells are held to it; a refusal stays.
+use lib.ListN.{length}
+use mathlib.Core.Path.{sym, ap}
+use mathlib.Core.Bool.{true, false}
+use Rattle.rank_sel.specs.Outcome.{answer}
+use Rattle.rank_sel.proofs.Outcome.{handed_on}
+use Rattle.build_inventory.specs.Build.{check_of}
+use Rattle.build_inventory.proofs.Outcomes.{Admission, admission}
+use Rattle.build_inventory.proofs.Summaries.{told_apart}
+use Rattle.build_inventory.proofs.check.Goals.{In_ok-right}
 use Rattle.build_inventory.proofs.check.Goals as goal
 
-pub compare-requires : goal.compare-requires
-compare-requires c =
+pub returns-in_err-right : goal.returns-in_err-right
+unfolding check_of
+returns-in_err-right c =
+    handed_on _ _ c.from_residual.ensures _ c.in_err-right.ensures _
+
+admits : (c : In_ok-right) →
     let a = c.args in
-    let m =
-    admission a.words.now a.len a.origin a.polarity a.choice _ _ c.in-Summary.right
-    (sym c.admit.ensures ∙ ap built c.in-Summary.is) in
-    record { plans = m.plans; cells = m.room; spills = m.spill_room }
+    Admission a.words.now a.len a.origin a.polarity a.choice (length a.inventory.now) (length a.spill.now) c.in_ok-right.right
+admits c = let a = c.args in admission a.words.now a.len a.origin a.polarity a.choice _ _ _ (sym c.in_ok-right.ensures)
 
-pub returns-in-Summary : goal.returns-in-Summary
-unfolding check_of
-returns-in-Summary c =
-    rw (← (ap built (sym c.in-Summary.is) ∙ c.admit.ensures)) c.compare.ensures
+pub invariant_of-planned : goal.invariant_of-planned
+invariant_of-planned c =
+    record { of = (admits (goal.at.invariant_of-planned c).In_ok-right).plans }
 
-pub returns-in-Refused : goal.returns-in-Refused
+pub same_index-requires : goal.same_index-requires
+same_index-requires c =
+    let m = admits (goal.at.same_index-requires c).In_ok-right in
+    record { cells = m.room; spills = m.spill_room }
+
+pub returns-then-ne : goal.returns-then-ne
 unfolding check_of
-returns-in-Refused c =
-    rw (← (ap built (sym c.in-Refused.is) ∙ c.admit.ensures))
+returns-then-ne c =
+    rw (← c.in_ok-right.ensures, told_apart c.args.summary c.in_ok-right.right c.ne.result true c.ne.ensures c.if-ne.true)
+
+pub returns : goal.returns
+unfolding check_of
+returns c =
+    rw (← c.in_ok-right.ensures, told_apart c.args.summary c.in_ok-right.right c.ne.result false c.ne.ensures c.if-ne.false)
+    (ap answer c.same_index.ensures)

@@ -1,8 +1,12 @@
 -- An unknown code is turned down; else the entry's plan goes out as a summary's nine numbers, or its refusal as its own.
-use mathlib.Core.Path.{refl, sym, ap, ◌∙◌}
-use Rattle.spacing.specs.Spacing.{plan_of, planned}
+use mathlib.Core.Path.{refl, ap, ◌∙◌}
+use Rattle.rank_sel.specs.Outcome.{Outcome, answer, and_then}
+use Rattle.inventory.specs.Numbers.{numbers_of}
+use Rattle.spacing.specs.Spacing.{plan_of}
+use Rattle.spacing.specs.declared.Parameters.{Parameters}
 use Rattle.edge_index_c.specs.Calls.{plan_c}
-use Rattle.edge_index_c.proofs.Returns.{ap2, is_known, is_unknown}
+use Rattle.edge_index_c.specs.Codes.{uncounted}
+use Rattle.edge_index_c.proofs.Returns.{ap2, is_known, is_unknown, mapped, returned_as}
 use Rattle.edge_index_c.proofs.edge_index_plan.Goals as goal
 
 pub returns-then-not-is_known : goal.returns-then-not-is_known
@@ -10,24 +14,13 @@ unfolding plan_c
 returns-then-not-is_known c =
     rw (is_unknown _ _ _ c.is_known.ensures c.if-not-is_known.true) (record { status = refl; out = refl })
 
-pub returns-in-Plan : goal.returns-in-Plan
+pub returns : goal.returns
 unfolding plan_c
-returns-in-Plan c =
+returns c =
     let a = c.args in
-    rw (
-      is_known _ _ _ c.is_known.ensures c.if-not-is_known.false,
-      ← (sym (ap planned c.in-Plan.is) ∙ c.plan.ensures
-          ∙ ap2 (plan_of a.words.now a.len) c.polarity_at.ensures c.choice_at-choice.ensures),
-    )
-    (record { status = refl; out = c.numbers_of.ensures })
-
-pub returns-in-Refused : goal.returns-in-Refused
-unfolding plan_c
-returns-in-Refused c =
-    let a = c.args in
-    rw (
-      is_known _ _ _ c.is_known.ensures c.if-not-is_known.false,
-      ← (sym (ap planned c.in-Refused.is) ∙ c.plan.ensures
-          ∙ ap2 (plan_of a.words.now a.len) c.polarity_at.ensures c.choice_at-choice.ensures),
-    )
-    (record { status = c.status.ensures; out = refl })
+    rw (is_known _ _ _ c.is_known.ensures c.if-not-is_known.false)
+    (returned_as
+    (mapped (λ p. numbers_of (uncounted p)) _ _ c.map.ensures.cases
+    ∙ ap (λ (o : Outcome Parameters). and_then o (λ p. answer (numbers_of (uncounted p))))
+    (c.plan-told.ensures ∙ ap2 (plan_of a.words.now a.len) c.polarity_at.ensures c.choice_at-choice.ensures))
+    c.give.ensures)

@@ -5,6 +5,8 @@ use Rattle.rank_sel.specs.Outcome.{Outcome, answer, and_then}
 use Rattle.inventory.specs.declared.summary.Summary.{Summary}
 use Rattle.read_inventory.specs.Jump.{Part, stored, store_of}
 use Rattle.read_inventory.specs.declared.jump.CellPart.{CellPart}
+use Rattle.rank_sel.specs.declared.Refusal.{Refusal}
+use Rattle.std.specs.Prelude.{Result, Ok}
 use Rattle.edge_index_c.specs.Calls.{Cells, part_numbers, subinventory_c}
 use Rattle.edge_index_c.proofs.Returns.{returned_yes, returned_no}
 use Rattle.edge_index_c.proofs.edge_index_subinventory.Goals.{After-subinventory_part}
@@ -12,7 +14,7 @@ use Rattle.edge_index_c.proofs.edge_index_subinventory.Goals as goal
 
 module _ (c : After-subinventory_part) where
   -- a part as it goes out
-  abbrev numbers : CellPart → Outcome Cells
+  abbrev numbers : Result CellPart Refusal → Outcome Cells
   numbers x = and_then (stored x) (λ p. answer (part_numbers p))
 
   told : let a = c.args in
@@ -30,17 +32,17 @@ unfolding subinventory_c
 returns-then-summary-gt1 c =
     rw (lt-ltb _ _ c.if-summary-gt1.true) (record { status = refl; out = refl })
 
-pub returns-in-Inventory : goal.returns-in-Inventory
-returns-in-Inventory c =
-    let at_subinventory_part = (goal.at.returns-in-Inventory c).After-subinventory_part in
-    returned_yes (sym (ap (numbers at_subinventory_part) c.in-Inventory.is) ∙ told at_subinventory_part) refl
+pub returns-in-Ok-Inventory : goal.returns-in-Ok-Inventory
+returns-in-Ok-Inventory c =
+    let at_subinventory_part = (goal.at.returns-in-Ok-Inventory c).After-subinventory_part in
+    returned_yes (sym (ap (numbers at_subinventory_part) (c.in-Ok-Inventory.is ∙ ap Ok c.in-Ok-Inventory.field-0-is)) ∙ told at_subinventory_part) refl
 
-pub returns-in-Spill : goal.returns-in-Spill
-returns-in-Spill c =
-    let at_subinventory_part = (goal.at.returns-in-Spill c).After-subinventory_part in
-    returned_yes (sym (ap (numbers at_subinventory_part) c.in-Spill.is) ∙ told at_subinventory_part) refl
+pub returns-in-Ok-Spill : goal.returns-in-Ok-Spill
+returns-in-Ok-Spill c =
+    let at_subinventory_part = (goal.at.returns-in-Ok-Spill c).After-subinventory_part in
+    returned_yes (sym (ap (numbers at_subinventory_part) (c.in-Ok-Spill.is ∙ ap Ok c.in-Ok-Spill.field-0-is)) ∙ told at_subinventory_part) refl
 
-pub returns-in-Refused : goal.returns-in-Refused
-returns-in-Refused c =
-    let at_subinventory_part = (goal.at.returns-in-Refused c).After-subinventory_part in
-    returned_no (sym (ap (numbers at_subinventory_part) c.in-Refused.is) ∙ told at_subinventory_part) c.status.ensures
+pub returns-in-Err : goal.returns-in-Err
+returns-in-Err c =
+    let at_subinventory_part = (goal.at.returns-in-Err c).After-subinventory_part in
+    returned_no (sym (ap (numbers at_subinventory_part) c.in-Err.is) ∙ told at_subinventory_part) c.status.ensures

@@ -1,6 +1,6 @@
--- Each turn moves the place on, so that the rest falls.
-use Rattle.std.proofs.Common.{length, ◌-◌}
+-- Each case is read from the front, so that the rest falls.
+use Rattle.std.proofs.Common.{length}
 use Rattle.replay.proofs.replay.Given as goal
 
-abbrev pub decreases-loop-progress : goal.decreases-loop-progress
-decreases-loop-progress g l = length l.list - l.progress.at
+abbrev pub decreases-loop-left : goal.decreases-loop-left
+decreases-loop-left g l = length l.left

@@ -1,5 +1,5 @@
 use mathlib.Core.Path.{◌≡◌, ap}
-use Prim.Native.Nat.{◌+◌, ◌/◌, ◌^◌}
+use Prim.Native.Nat.{◌+◌, ◌*◌, ◌/◌, ◌^◌}
 use native.Mathlib.Omega.{arith}
 use lib.Bits.{bit_and}
 use lib.Count.{ones-le}
@@ -12,28 +12,28 @@ use Rattle.select_in_word.proofs.Holds.{holds_ones, holds_sought}
 use Rattle.select_in_word.proofs.Select.{byte_sought, byte_le, holds_byte, word_at, word_refused}
 use Rattle.select_in_word.proofs.select_in_word.Goals as goal
 
-pub loop-at-init : goal.loop-at-init
-loop-at-init c =
+pub loop-i-init : goal.loop-i-init
+loop-i-init c =
     omega (arith, rank-zero (bit c.args.word))
 
 pub select_in_byte-requires : goal.select_in_byte-requires
 select_in_byte-requires c =
     let w = c.args.word in
-    let h = holds_byte w c.loop-at.at in
-    omega (arith, ones-le 8 (bit_and (w / 2 ^ c.loop-at.at) 255) h.small, c.count_ones-ones.ensures.exact)
+    let h = holds_byte w (8 * c.loop-i.i) in
+    omega (arith, ones-le 8 (bit_and (w / 2 ^ (8 * c.loop-i.i)) 255) h.small, c.count_ones-ones.ensures.exact)
 
 pub overflow_add-result : goal.overflow_add-result
 overflow_add-result c =
     let w = c.args.word in
-    omega (arith, byte_le (bit_and (w / 2 ^ c.loop-at.at) 255) c.loop-at.remaining, c.select_in_byte.ensures)
+    omega (arith, byte_le (bit_and (w / 2 ^ (8 * c.loop-i.i)) 255) c.loop-i.remaining, c.select_in_byte.ensures)
 
 pub returns-then-remaining-ones : goal.returns-then-remaining-ones
 returns-then-remaining-ones c =
     let a = c.args in
     let w = a.word in
     let r = a.rank in
-    let p = c.loop-at.at in
-    let k = c.loop-at.remaining in
+    let p = 8 * c.loop-i.i in
+    let k = c.loop-i.remaining in
     let b = bit_and (w / 2 ^ p) 255 in
     let h = holds_byte w p in
     let s = holds_sought 8 (bit w) p b k (select_in_byte b k) h
@@ -42,15 +42,16 @@ returns-then-remaining-ones c =
     (word_at w r (p + select_in_byte b k)
     (sought_wider (bit w) 8 p k 64 0 r (p + select_in_byte b k) s (omega arith) (omega arith) (omega (arith, rank-zero (bit w)))))
 
-pub loop-at-preserved : goal.loop-at-preserved
-loop-at-preserved c =
+pub loop-i-preserved : goal.loop-i-preserved
+loop-i-preserved c =
     let w = c.args.word in
-    let p = c.loop-at.at in
-    omega (arith, c.count_ones-ones.ensures.exact, holds_ones 8 (bit w) p (bit_and (w / 2 ^ p) 255) (holds_byte w p))
+    let p = 8 * c.loop-i.i in
+    let e : ranks (bit w) (8 * (c.loop-i.i + 1)) ≡ ranks (bit w) (p + 8) = ap (ranks (bit w)) (omega arith) in
+    omega (arith, e, c.count_ones-ones.ensures.exact, holds_ones 8 (bit w) p (bit_and (w / 2 ^ p) 255) (holds_byte w p))
 
 pub returns : goal.returns
 returns c =
     let a = c.args in
     let w = a.word in
-    let e : ranks (bit w) c.loop-at.at ≡ ranks (bit w) 64 = ap (ranks (bit w)) (omega arith) in
+    let e : ranks (bit w) (8 * c.loop-i.i) ≡ ranks (bit w) 64 = ap (ranks (bit w)) (omega arith) in
     word_refused w a.rank (omega arith)

@@ -1,23 +1,23 @@
 -- A plan starts with a count: its refusals are the count's, and its answer is the choice's for what was counted.
-use Rattle.std.proofs.Common.{sym, ap, ◌∙◌, arith}
-use Rattle.rank_sel.specs.Outcome.{answered}
+use Rattle.std.proofs.Common.{sym, ◌∙◌, arith}
+use Rattle.rank_sel.proofs.Outcome.{handed_on}
 use Rattle.bit_record.proofs.Record.{num_le}
 use Rattle.bit_record.proofs.Counted.{counted}
 use Rattle.spacing.specs.Spacing.{plan_of}
 use Rattle.spacing.proofs.plan.Goals as goal
 
-pub with_choice-requires : goal.with_choice-requires
-with_choice-requires c =
+pub invariant_of-counted : goal.invariant_of-counted
+invariant_of-counted c =
     let a = c.args in
-    let e = counted a.words.now a.len a.polarity _ (sym c.count.ensures ∙ ap answered c.in-Value.is) in
-    omega (arith, e.1, num_le a.polarity a.words.now a.len)
+    let e = counted a.words.now a.len a.polarity _ (sym c.in_ok-num.ensures) in
+    record { few = omega (arith, e.1, num_le a.polarity a.words.now a.len) }
 
-pub returns-in-Value : goal.returns-in-Value
+pub returns-in_err-num : goal.returns-in_err-num
 unfolding plan_of
-returns-in-Value c =
-    c.with_choice.ensures ∙ sym (rw (← c.count.ensures, c.in-Value.is))
+returns-in_err-num c =
+    handed_on _ _ c.from_residual.ensures _ c.in_err-num.ensures _
 
-pub returns-in-Refused : goal.returns-in-Refused
+pub returns : goal.returns
 unfolding plan_of
-returns-in-Refused c =
-    sym (rw (← c.count.ensures, c.in-Refused.is))
+returns c =
+    c.with_choice.ensures ∙ rw (← c.in_ok-num.ensures)

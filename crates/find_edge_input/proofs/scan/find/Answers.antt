@@ -1,14 +1,19 @@
--- Either return is the first index that passes, by the invariant: of the byte that stops the loop, or of none.
-use Rattle.std.proofs.Common.{◌≡◌, ℕ, true, nat_eq, get_or, sym, arith}
-use Rattle.std.proofs.lemmas.Grind.{common_steps}
-use Rattle.std.proofs.lemmas.List.Sums.{position_or_len_is}
+-- `position` is std's, and the length stands for none.
+use Rattle.std.proofs.Common.{◌≡◌, ℕ, ◌≤◌, Bool, List, [], ◌∷◌, nat_eq, length, cond, ltb, ◌∙◌, ap, arith, rules, tests}
+use Rattle.std.specs.Prelude.{Some, None, unwrap_or}
+use Rattle.std.specs.List.{position_or_len}
+use Rattle.std.proofs.lemmas.Iterator.{YieldsList-from_slice}
+use Rattle.std.proofs.lemmas.Iterator.Search.{position_from_yields_List}
 use Rattle.find_edge_input.proofs.scan.find.Goals as goal
 
-pub returns-then-b-byte-clause-value : goal.returns-then-b-byte-clause-value
-returns-then-b-byte-clause-value c =
-    let here : nat_eq (get_or c.args.text.now c.loop-i.i 0) c.args.byte ≡ true = grind (arith, common_steps) in
-    sym (position_or_len_is (λ (x : ℕ). nat_eq x c.args.byte) c.args.text.now c.loop-i.i 0 (omega arith) c.loop-i.invariant (λ _. here))
+or_len : (p n : ℕ) → p ≤ n → unwrap_or (cond (ltb p n) (Some p) None) n ≡ p
+or_len p n h = grind (arith, tests)
+
+within : (p : ℕ → Bool) (xs : List ℕ) → position_or_len p xs ≤ length xs
+within p [] = omega arith
+within p (x ∷ xs) = grind (arith, tests, within p xs)
 
 pub returns-clause-value : goal.returns-clause-value
 returns-clause-value c =
-    sym (position_or_len_is (λ (x : ℕ). nat_eq x c.args.byte) c.args.text.now _ 0 (omega arith) (λ k h. c.loop-i.invariant k (omega arith)) (λ h. absurd (omega arith)))
+    let found = position_from_yields_List (λ (x : ℕ). nat_eq x c.args.byte) _ _ c.position.result c.position.ensures.ran (YieldsList-from_slice c.args.text.now cc) (λ x b q k. search (rules, tests)) in
+    c.unwrap_or.ensures ∙ ap (λ o. unwrap_or o (length c.args.text.now)) found ∙ or_len _ _ (within (λ (x : ℕ). nat_eq x c.args.byte) c.args.text.now)

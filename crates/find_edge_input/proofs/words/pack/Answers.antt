@@ -7,21 +7,16 @@ use Rattle.find_edge_input.proofs.words.pack.Goals as goal
 
 pub loop-i-init : goal.loop-i-init
 unfolding tabulate
-loop-i-init c =
-    (omega arith, refl, refl)
+loop-i-init c = (refl, refl)
 
 pub loop-i-preserved : goal.loop-i-preserved
 loop-i-preserved c =
     let a = c.args in
     let l = c.loop-i in
-    (omega arith, simp length-set l.invariant.1, ap (λ (z : List ℕ). set z l.i c.word_of.result) l.invariant.2 ∙ tab_more (word_of a.bytes.now) a.words.now l.i c.word_of.result (omega arith) c.word_of.ensures)
-
-pub shape_of-words : goal.shape_of-words
-shape_of-words c =
-    c.loop-i.invariant.1
+    (simp length-set l.invariant.0, ap (λ (z : List ℕ). set z l.i c.word_of.result) l.invariant.1 ∙ tab_more (word_of a.bytes.now) a.words.now l.i c.word_of.result (omega arith) c.word_of.ensures)
 
 pub returns : goal.returns
 unfolding packed
 returns c =
     let e : c.loop-i.i ≡ ceil_div (length c.args.bytes.now) 8 = omega arith in
-    rw e at c.loop-i.invariant.2
+    rw e at c.loop-i.invariant.1

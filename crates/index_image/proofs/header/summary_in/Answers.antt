@@ -10,5 +10,5 @@ pub returns : goal.returns
 unfolding summary_in
 returns c =
     c.summary_at.ensures
-    ∙ ap summary_at c.numbers_in-numbers.ensures
+    ∙ ap summary_at c.numbers_in.ensures
     ∙ ap (λ (z : List ℕ). summary_at (numbers_in z)) c.read_header.ensures

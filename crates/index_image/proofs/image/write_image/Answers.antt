@@ -3,52 +3,46 @@ use Prim.Native.Nat.{◌+◌, ◌^◌, ◌<◌}
 use mathlib.Core.Path.{ap, ◌∙◌}
 use native.Mathlib.Omega.{arith}
 use lib.ListN.{length}
+use lib.Seq.{length-take-le}
+use Rattle.inventory.specs.Lawful.{CellsHeld}
 use Rattle.inventory.specs.Numbers.{numbers_of}
 use Rattle.index_image.specs.Image.{offset_of, header_of}
-use Rattle.index_image.proofs.Outcomes.{WriteCalled, write_stopped, write_held, write_room, write_done}
-use Rattle.index_image.proofs.image.write_image.Goals.{After-test_writing-tested, In-Passed}
+use Rattle.index_image.proofs.Outcomes.{write_stopped, write_held, write_room, write_done}
+use Rattle.index_image.proofs.image.write_image.Goals.{In_ok-test_writing}
 use Rattle.index_image.proofs.image.write_image.Goals as goal
 
--- the tests have spoken
-module _ (c : After-test_writing-tested) where
-  called : let a = c.args in
-      WriteCalled a.summary a.inventory.now a.spill.now (length a.bytes.now) c.test_writing-tested.result
-  called = record { told = record { told = c.test_writing-tested.ensures } }
+-- the tests are passed
+module _ (c : In_ok-test_writing) where
+  held : let a = c.args in CellsHeld a.summary a.inventory.now a.spill.now
+  held = let a = c.args in write_held a.summary a.inventory.now a.spill.now (length a.bytes.now) c.in_ok-test_writing.ensures
 
--- and are passed
-module _ (c : In-Passed) where
   room : let a = c.args in offset_of (a.summary.inventory_len + a.summary.spill_len) < 2 ^ 64
-  room = omega (arith, write_room (called (goal.at.In-Passed c).After-test_writing-tested) c.in-Passed.is)
+  room = let a = c.args in omega (arith, write_room a.summary a.inventory.now a.spill.now (length a.bytes.now) c.in_ok-test_writing.ensures)
 
-pub returns-in_default : goal.returns-in_default
-returns-in_default c =
-    write_stopped (called (goal.at.returns-in_default c).After-test_writing-tested) c.reason.result c.in_default.is c.reason.ensures c.args.bytes.now
+pub returns-in_err-test_writing : goal.returns-in_err-test_writing
+returns-in_err-test_writing c =
+    let a = c.args in
+    write_stopped a.summary a.inventory.now a.spill.now (length a.bytes.now) _ _ c.from_residual.ensures c.in_err-test_writing.ensures a.bytes.now
 
-pub header_of-requires : goal.header_of-requires
+pub header_of-header-requires : goal.header_of-header-requires
 unfolding numbers_of
-header_of-requires c =
-    rw c.numbers_of.ensures (omega (arith, room (goal.at.header_of-requires c).In-Passed))
+header_of-header-requires c =
+    rw c.numbers_of.ensures (omega (arith, room (goal.at.header_of-header-requires c).In_ok-test_writing))
 
 pub put_image-requires : goal.put_image-requires
 put_image-requires c =
-    let at_test_writing_tested = (goal.at.put_image-requires c).After-test_writing-tested in
-    let e = c.in-Passed.is in
-    let h = write_held (called at_test_writing_tested) e in
-    (write_room (called at_test_writing_tested) e, h.own, h.over)
-
-pub overflow_add-result : goal.overflow_add-result
-overflow_add-result c =
-    omega (arith, room (goal.at.overflow_add-result c).In-Passed)
-
-pub overflow_mul-result : goal.overflow_mul-result
-overflow_mul-result c =
-    omega (arith, room (goal.at.overflow_mul-result c).In-Passed)
+    let a = c.args in
+    let at = (goal.at.put_image-requires c).In_ok-test_writing in
+    let own = length-take-le a.summary.inventory_len a.inventory.now (held at).own in
+    let over = length-take-le a.summary.spill_len a.spill.now (held at).over in
+    rw (own, over) (write_room a.summary a.inventory.now a.spill.now (length a.bytes.now) c.in_ok-test_writing.ensures)
 
 pub overflow_add-result-2 : goal.overflow_add-result-2
 overflow_add-result-2 c =
-    omega (arith, room (goal.at.overflow_add-result-2 c).In-Passed)
+    omega (arith, room (goal.at.overflow_add-result-2 c).In_ok-test_writing)
 
 pub returns : goal.returns
 returns c =
-    write_done (called (goal.at.returns c).After-test_writing-tested) c.in-Passed.is c.header_of.result _ _
-    (c.header_of.ensures ∙ ap header_of c.numbers_of.ensures) c.put_image.ensures
+    let a = c.args in
+    write_done a.summary a.inventory.now a.spill.now (length a.bytes.now) c.in_ok-test_writing.ensures c.header_of-header.result _ _
+    (c.header_of-header.ensures ∙ ap header_of c.numbers_of.ensures) c.put_image.ensures

@@ -1,12 +1,8 @@
 -- The bytes of the cells so far stand in their place, and all else as it was (`put_more`).
 use mathlib.Core.Path.{◌≡◌}
-use Prim.Native.Nat.{◌-◌, ◌≤◌}
-use lib.ListN.{length, take}
+use lib.ListN.{take}
 use Rattle.index_image.specs.Bytes.{bytes_of, put_at}
 use Rattle.index_image.proofs.words.write_words.Given as goal
 
 abbrev pub invariant-loop-i : goal.invariant-loop-i
-invariant-loop-i l = (l.i ≤ l.n) × (length l.bytes ≡ length l.initial.bytes) × (l.bytes ≡ put_at l.at (bytes_of (take l.i l.cells)) l.initial.bytes)
-
-abbrev pub decreases-loop-i : goal.decreases-loop-i
-decreases-loop-i l = l.n - l.i
+invariant-loop-i l = l.bytes ≡ put_at l.at (bytes_of (take l.i l.cells)) l.initial.bytes

@@ -6,6 +6,7 @@ use borrow.Author.Rules.{rules}
 use Rattle.read_inventory.specs.Read.{entry_of_rank}
 use Rattle.read_inventory.specs.Steps.{EntryLent}
 use Rattle.read_inventory.proofs.Decoding.{Quartered, entry_lent, quarter_in, quarter_fits, quarter_past, quarter_is, decoded_marks}
+use Rattle.read_inventory.proofs.Passing.{refused_so}
 use Rattle.read_inventory.proofs.decode.mark_of.Goals.{After-low_bits-subrank, After-plan-1}
 use Rattle.read_inventory.proofs.decode.mark_of.Goals as goal
 
@@ -42,9 +43,13 @@ bounds-inventory-cell c =
     let l = lent (goal.at.bounds-inventory-cell c).After-plan-1 in
     search rules
 
+pub returns-in_err-decode : goal.returns-in_err-decode
+returns-in_err-decode c =
+    refused_so _ _ c.from_residual.ensures _ (decoded_marks _ _ _ _ _ c.in_err-decode.ensures)
+
 pub returns-in_default : goal.returns-in_default
 returns-in_default c =
-    c.mark_by.ensures ∙ decoded_marks _ _ _ _ _ c.decode.ensures
+    rw c.mark_by.ensures (decoded_marks _ _ _ _ _ c.in_ok-decode.ensures)
 
 pub overflow_add-cell : goal.overflow_add-cell
 overflow_add-cell c =

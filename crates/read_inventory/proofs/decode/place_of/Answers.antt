@@ -1,18 +1,8 @@
 -- The lanes are a power of two, so that shift and low bits are the quotient and the rest by them.
 use native.Mathlib.Omega.{arith}
 use Rattle.inventory.proofs.Shapes.{lanes_log}
-use Rattle.read_inventory.proofs.Reading.{heads_low, near_small, spot_start, spot_own, spot_over}
+use Rattle.read_inventory.proofs.Reading.{near_small}
 use Rattle.read_inventory.proofs.decode.place_of.Goals as goal
-
-pub returns-then-i-shape : goal.returns-then-i-shape
-returns-then-i-shape c =
-    let a = c.args in
-    spot_start a.shape a.log2_words_per_subinventory a.i c.requires.0 c.if-i-shape.true
-
-pub overflow_sub-near : goal.overflow_sub-near
-overflow_sub-near c =
-    let a = c.args in
-    omega (arith, c.pow2.ensures, heads_low a.shape a.log2_words_per_subinventory 0 c.requires.0)
 
 pub overflow_mul-near : goal.overflow_mul-near
 overflow_mul-near c =
@@ -40,13 +30,6 @@ pub low_bits-requires : goal.low_bits-requires
 low_bits-requires c =
     omega (arith, lanes_log c.requires.0)
 
-pub returns-then-i-near : goal.returns-then-i-near
-returns-then-i-near c =
-    let a = c.args in
-    spot_own a.shape a.log2_words_per_subinventory a.i c.requires.0 c.pow2.result
-    c.pow2.ensures c.if-i-shape.false c.if-i-near.true c.low_bits.result
-    c.low_bits.ensures
-
 pub overflow_shr-result-2 : goal.overflow_shr-result-2
 overflow_shr-result-2 c =
     omega (arith, lanes_log c.requires.0)
@@ -54,10 +37,3 @@ overflow_shr-result-2 c =
 pub low_bits-requires-2 : goal.low_bits-requires-2
 low_bits-requires-2 c =
     omega (arith, lanes_log c.requires.0)
-
-pub returns : goal.returns
-returns c =
-    let a = c.args in
-    spot_over a.shape a.log2_words_per_subinventory a.i c.requires.0 c.pow2.result
-    c.pow2.ensures c.if-i-shape.false c.if-i-near.false c.low_bits-2.result
-    c.low_bits-2.ensures

@@ -1,80 +1,90 @@
 -- Refused by the tests, or passed: then the two marks lead to two positions, a's refusal before b's, and these to the dwell.
-use mathlib.Core.Path.{◌≡◌, sym, ap, ◌∙◌}
-use Prim.Native.Nat.{ℕ}
-use Rattle.rank_sel.specs.Outcome.{Outcome, answer, answered}
+use mathlib.Core.List.{◌++◌}
+use mathlib.Core.Path.{◌≡◌, ◌∙◌}
+use Rattle.rank_sel.specs.Outcome.{answer}
+use Rattle.rank_sel.proofs.Outcome.{tests_handed_on}
+use Rattle.spacing.specs.Spacing.{N}
+use Rattle.read_inventory.specs.Jump.{dwell_of}
 use Rattle.read_inventory.specs.Read.{position_of}
-use Rattle.read_inventory.proofs.Answers.{MarkRead, position_by, low_by, dwell_stops, dwell_stops_late, dwell_both}
-use Rattle.read_inventory.proofs.Passing.{DwellCalled, dwell_held, dwell_first, dwell_second, dwell_passed, dwell_stopped}
-use Rattle.read_inventory.proofs.jump.dwell.Goals.{After-finish-from, After-finish-to, After-mark_of, After-mark_of-2, After-test_dwell-tested}
+use Rattle.read_inventory.specs.Tests.{of_index, of_ranks}
+use Rattle.read_inventory.proofs.Answers.{MarkRead, mark_below, position_by, position_none, dwell_stops, dwell_stops_late, dwell_both}
+use Rattle.read_inventory.proofs.Passing.{DwellCalled, dwell_held, dwell_first, dwell_second, dwell_passed, refused_so}
+use Rattle.read_inventory.proofs.jump.dwell.Goals.{In_ok-from, In_ok-o, In_ok-p, In_ok-test_dwell, In_ok-to}
 use Rattle.read_inventory.proofs.jump.dwell.Goals as goal
 
--- the tests have spoken
-module _ (c : After-test_dwell-tested) where
+-- the tests were passed
+module _ (c : In_ok-test_dwell) where
   called : let a = c.args in
-      DwellCalled a.words.now a.summary a.inventory.now a.spill.now a.a a.b c.test_dwell-tested.result
-  called = record { told = c.test_dwell-tested.ensures }
+      DwellCalled a.words.now a.summary a.inventory.now a.spill.now a.a a.b
+  called = record { passed = c.in_ok-test_dwell.ensures }
 
-  -- the position of a rank
-  abbrev position : ℕ → Outcome ℕ
-  position r = let a = c.args in position_of a.words.now a.summary a.inventory.now a.spill.now r
+-- the marks are read
+module _ (c : In_ok-from) where
+  read : let a = c.args in MarkRead a.summary a.inventory.now a.spill.now a.a c.in_ok-from.from
+  read = record { told = c.in_ok-from.ensures }
 
-module _ (c : After-mark_of) where
-  read : let a = c.args in MarkRead a.summary a.inventory.now a.spill.now a.a c.mark_of.result
-  read = record { told = c.mark_of.ensures }
+module _ (c : In_ok-p) where
+  first : let a = c.args in answer c.in_ok-p.p ≡ position_of a.words.now a.summary a.inventory.now a.spill.now a.a
+  first = c.in_ok-p.ensures ∙ position_by (read (goal.at.In_ok-p c).In_ok-from) c.args.words.now
 
-module _ (c : After-finish-from) where
-  first : answered c.finish-from.result ≡ position (goal.at.After-finish-from c).After-test_dwell-tested c.args.a
-  first = c.finish-from.ensures ∙ position_by (read (goal.at.After-finish-from c).After-mark_of) c.args.words.now
+module _ (c : In_ok-to) where
+  read_to : let a = c.args in MarkRead a.summary a.inventory.now a.spill.now a.b c.in_ok-to.to
+  read_to = record { told = c.in_ok-to.ensures }
 
--- and so does the mark of b
-module _ (c : After-mark_of-2) where
-  read2 : let a = c.args in
-      MarkRead a.summary a.inventory.now a.spill.now a.b c.mark_of-2.result
-  read2 = record { told = c.mark_of-2.ensures }
+module _ (c : In_ok-o) where
+  second : let a = c.args in answer c.in_ok-o.o ≡ position_of a.words.now a.summary a.inventory.now a.spill.now a.b
+  second = c.in_ok-o.ensures ∙ position_by (read_to (goal.at.In_ok-o c).In_ok-to) c.args.words.now
 
-module _ (c : After-finish-to) where
-  second : answered c.finish-to.result ≡ position (goal.at.After-finish-to c).After-test_dwell-tested c.args.b
-  second = c.finish-to.ensures ∙ position_by (read2 (goal.at.After-finish-to c).After-mark_of-2) c.args.words.now
-
-  -- what a's position was
-  was_first : answer c.in-Value.p ≡ position (goal.at.After-finish-to c).After-test_dwell-tested c.args.a
-  was_first = sym (ap answered c.in-Value.is) ∙ first (goal.at.After-finish-to c).After-finish-from
-
-pub returns-in_default : goal.returns-in_default
-returns-in_default c =
-    dwell_stopped (called (goal.at.returns-in_default c).After-test_dwell-tested) c.reason.result c.in_default.is c.reason.ensures
+pub returns-in_err-test_dwell : goal.returns-in_err-test_dwell
+unfolding dwell_of
+returns-in_err-test_dwell c =
+    let a = c.args in
+    tests_handed_on _ _ c.from_residual.ensures (of_index a.words.now a.summary a.inventory.now a.spill.now ++ of_ranks (N a.summary.plan) a.a a.b)
+    c.in_err-test_dwell.ensures _
 
 pub mark_of-requires : goal.mark_of-requires
 mark_of-requires c =
-    dwell_first (called (goal.at.mark_of-requires c).After-test_dwell-tested) c.in-Passed.is
+    dwell_first (called (goal.at.mark_of-requires c).In_ok-test_dwell)
 
-pub finish-from-requires : goal.finish-from-requires
-finish-from-requires c =
-    ((dwell_held (called (goal.at.finish-from-requires c).After-test_dwell-tested) c.in-Passed.is).from.admitted, low_by (read c))
+pub returns-in_err-from : goal.returns-in_err-from
+returns-in_err-from c =
+    refused_so _ _ c.from_residual-in_err-from.ensures _
+    (dwell_stops _ _ _ _ _ _ _ (position_none _ _ _ _ _ c.in_err-from.ensures c.args.words.now)
+    ∙ dwell_passed (called (goal.at.returns-in_err-from c).In_ok-test_dwell))
 
-pub returns-in_default-from : goal.returns-in_default-from
-returns-in_default-from c =
-    dwell_stops _ _ _ _ _ _ (answered c.finish-from.result) _ (first (goal.at.returns-in_default-from c).After-finish-from) (ap answered c.in_default-from.is)
-    ∙ dwell_passed (called (goal.at.returns-in_default-from c).After-test_dwell-tested) c.in-Passed.is
+pub finish-requires : goal.finish-requires
+finish-requires c =
+    ((dwell_held (called (goal.at.finish-requires c).In_ok-test_dwell)).from.admitted, mark_below (read c))
+
+pub returns-in_err-p : goal.returns-in_err-p
+returns-in_err-p c =
+    refused_so _ _ c.from_residual-in_err-p.ensures _
+    (dwell_stops _ _ _ _ _ _ _ (c.in_err-p.ensures ∙ position_by (read (goal.at.returns-in_err-p c).In_ok-from) c.args.words.now)
+    ∙ dwell_passed (called (goal.at.returns-in_err-p c).In_ok-test_dwell))
 
 pub mark_of-requires-2 : goal.mark_of-requires-2
 mark_of-requires-2 c =
-    dwell_second (called (goal.at.mark_of-requires-2 c).After-test_dwell-tested) c.in-Passed.is
+    dwell_second (called (goal.at.mark_of-requires-2 c).In_ok-test_dwell)
 
-pub finish-to-requires : goal.finish-to-requires
-finish-to-requires c =
-    ((dwell_held (called (goal.at.finish-to-requires c).After-test_dwell-tested) c.in-Passed.is).from.admitted, low_by (read2 c))
+pub returns-in_err-to : goal.returns-in_err-to
+returns-in_err-to c =
+    refused_so _ _ c.from_residual-in_err-to.ensures _
+    (dwell_stops_late _ _ _ _ _ _ _ _ (first (goal.at.returns-in_err-to c).In_ok-p) (position_none _ _ _ _ _ c.in_err-to.ensures c.args.words.now)
+    ∙ dwell_passed (called (goal.at.returns-in_err-to c).In_ok-test_dwell))
 
-pub returns-in_default-to : goal.returns-in_default-to
-returns-in_default-to c =
-    let at_finish_to = (goal.at.returns-in_default-to c).After-finish-to in
-    dwell_stops_late _ _ _ _ _ _ _ (answered c.finish-to.result) _ (was_first at_finish_to) (second at_finish_to)
-    (ap answered c.in_default-to.is)
-    ∙ dwell_passed (called (goal.at.returns-in_default-to c).After-test_dwell-tested) c.in-Passed.is
+pub finish-requires-2 : goal.finish-requires-2
+finish-requires-2 c =
+    ((dwell_held (called (goal.at.finish-requires-2 c).In_ok-test_dwell)).from.admitted, mark_below (read_to c))
+
+pub returns-in_err-o : goal.returns-in_err-o
+returns-in_err-o c =
+    refused_so _ _ c.from_residual-in_err-o.ensures _
+    (dwell_stops_late _ _ _ _ _ _ _ _ (first (goal.at.returns-in_err-o c).In_ok-p)
+    (c.in_err-o.ensures ∙ position_by (read_to (goal.at.returns-in_err-o c).In_ok-to) c.args.words.now)
+    ∙ dwell_passed (called (goal.at.returns-in_err-o c).In_ok-test_dwell))
 
 pub returns : goal.returns
 returns c =
-    let at_finish_to = (goal.at.returns c).After-finish-to in
     c.dwell_by.ensures
-    ∙ dwell_both _ _ _ _ _ _ _ _ (was_first at_finish_to) (sym (ap answered c.in-Value-to.is) ∙ second at_finish_to)
-    ∙ dwell_passed (called (goal.at.returns c).After-test_dwell-tested) c.in-Passed.is
+    ∙ dwell_both _ _ _ _ _ _ _ _ (first (goal.at.returns c).In_ok-p) (second (goal.at.returns c).In_ok-o)
+    ∙ dwell_passed (called (goal.at.returns c).In_ok-test_dwell)

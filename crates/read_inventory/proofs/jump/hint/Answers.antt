@@ -1,48 +1,57 @@
 -- Refused by the tests, or passed: then the mark as read is the hint, by its sample, its rank less what is passed from it on.
+use mathlib.Core.List.{◌++◌}
 use mathlib.Core.Path.{◌∙◌}
 use native.Mathlib.Omega.{arith}
-use Rattle.read_inventory.proofs.Answers.{MarkRead, hint_at_lem, hint_none, mark_below, passes_few}
-use Rattle.read_inventory.proofs.Passing.{Called, called_held, called_readable, hint_passed, hint_stopped}
-use Rattle.read_inventory.proofs.jump.hint.Goals.{After-mark_of, After-test_call-tested}
+use Rattle.rank_sel.proofs.Outcome.{tests_handed_on}
+use Rattle.spacing.specs.Spacing.{N}
+use Rattle.read_inventory.specs.Jump.{hint_of}
+use Rattle.read_inventory.specs.Tests.{of_index, of_rank}
+use Rattle.read_inventory.proofs.Answers.{MarkRead, hint_by, hint_none, mark_below, passes_few}
+use Rattle.read_inventory.proofs.Passing.{Called, called_held, called_readable, hint_passed, refused_so}
+use Rattle.read_inventory.proofs.jump.hint.Goals.{In_ok-mark, In_ok-test_call}
 use Rattle.read_inventory.proofs.jump.hint.Goals as goal
 
--- the tests have spoken
-module _ (c : After-test_call-tested) where
+-- the tests were passed
+module _ (c : In_ok-test_call) where
   called : let a = c.args in
-      Called a.words.now a.summary a.inventory.now a.spill.now a.rank c.test_call-tested.result
-  called = record { told = c.test_call-tested.ensures }
+      Called a.words.now a.summary a.inventory.now a.spill.now a.rank
+  called = record { passed = c.in_ok-test_call.ensures }
 
 -- the mark is read
-module _ (c : After-mark_of) where
-  read : let a = c.args in MarkRead a.summary a.inventory.now a.spill.now a.rank c.mark_of.result
-  read = record { told = c.mark_of.ensures }
+module _ (c : In_ok-mark) where
+  read : let a = c.args in MarkRead a.summary a.inventory.now a.spill.now a.rank c.in_ok-mark.mark
+  read = record { told = c.in_ok-mark.ensures }
 
-pub returns-in_default : goal.returns-in_default
-returns-in_default c =
-    hint_stopped (called (goal.at.returns-in_default c).After-test_call-tested) c.reason.result c.in_default.is c.reason.ensures
+pub returns-in_err-test_call : goal.returns-in_err-test_call
+unfolding hint_of
+returns-in_err-test_call c =
+    let a = c.args in
+    tests_handed_on _ _ c.from_residual.ensures (of_index a.words.now a.summary a.inventory.now a.spill.now ++ of_rank (N a.summary.plan) a.rank)
+    c.in_err-test_call.ensures _
 
 pub mark_of-requires : goal.mark_of-requires
 mark_of-requires c =
-    called_readable (called (goal.at.mark_of-requires c).After-test_call-tested) c.in-Passed.is
+    called_readable (called c)
 
-pub returns-in_default-mark_of : goal.returns-in_default-mark_of
-returns-in_default-mark_of c =
-    hint_none (read (goal.at.returns-in_default-mark_of c).After-mark_of) c.in_default-mark_of.is ∙ hint_passed (called (goal.at.returns-in_default-mark_of c).After-test_call-tested) c.in-Passed.is
+pub returns-in_err-mark : goal.returns-in_err-mark
+returns-in_err-mark c =
+    refused_so _ _ c.from_residual-in_err-mark.ensures _
+    (hint_none _ _ _ _ _ c.in_err-mark.ensures ∙ hint_passed (called (goal.at.returns-in_err-mark c).In_ok-test_call))
 
 pub sample_at-requires : goal.sample_at-requires
 sample_at-requires c =
     omega (
       arith,
-      mark_below (read (goal.at.sample_at-requires c).After-mark_of) _ _ _ c.in-At.is,
-      (called_held (called (goal.at.sample_at-requires c).After-test_call-tested) c.in-Passed.is).from.numbered,
+      mark_below (read (goal.at.sample_at-requires c).In_ok-mark),
+      (called_held (called (goal.at.sample_at-requires c).In_ok-test_call)).from.numbered,
     )
 
 pub overflow_sub-result : goal.overflow_sub-result
 overflow_sub-result c =
-    passes_few (read (goal.at.overflow_sub-result c).After-mark_of) _ _ _ c.in-At.is
+    passes_few (read (goal.at.overflow_sub-result c).In_ok-mark)
 
 pub returns : goal.returns
 returns c =
     rw c.sample_at.ensures
-    (hint_at_lem (read (goal.at.returns c).After-mark_of) _ _ _ c.in-At.is
-    ∙ hint_passed (called (goal.at.returns c).After-test_call-tested) c.in-Passed.is)
+    (hint_by (read (goal.at.returns c).In_ok-mark)
+    ∙ hint_passed (called (goal.at.returns c).In_ok-test_call))

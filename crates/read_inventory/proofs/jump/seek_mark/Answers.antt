@@ -2,7 +2,6 @@
 use mathlib.Core.Path.{sym, ap, ◌∙◌}
 use native.Mathlib.Omega.{arith}
 use Rattle.rank_sel.specs.Outcome.{or_refuse}
-use Rattle.bit_record.specs.Record.{selected, found}
 use Rattle.bit_record.proofs.Record.{selected_in}
 use Rattle.bit_record.proofs.Seek.{record_at}
 use Rattle.read_inventory.proofs.jump.seek_mark.Goals as goal
@@ -10,18 +9,9 @@ use Rattle.read_inventory.proofs.jump.seek_mark.Goals as goal
 pub returns-then-is_selected : goal.returns-then-is_selected
 returns-then-is_selected c =
     let a = c.args in
-    let f = selected a.plan.polarity a.words.now a.plan.len in
     rw c.if-residual-eq0.true
     (ap (or_refuse 10)
     (record_at a.plan.polarity a.words.now a.plan.len a.mark 0 a.mark (omega arith)
     (selected_in a.plan.polarity a.words.now a.plan.len a.mark c.requires.1
     ∙ sym c.is_selected.ensures ∙ c.if-is_selected.true)
     (omega arith)))
-
-pub returns-in-At : goal.returns-in-At
-returns-in-At c =
-    ap (or_refuse 10) (sym (ap found c.in-At.is) ∙ c.seek_from.ensures.position)
-
-pub returns-in-Nowhere : goal.returns-in-Nowhere
-returns-in-Nowhere c =
-    ap (or_refuse 10) (sym (ap found c.in-Nowhere.is) ∙ c.seek_from.ensures.position)

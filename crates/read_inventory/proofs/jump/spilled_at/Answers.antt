@@ -13,7 +13,7 @@ module _ (c : After-entry_ranks-ranks) where
 
 pub ceil_shift-requires : goal.ceil_shift-requires
 ceil_shift-requires c =
-    (few c, c.requires.small_q)
+    (few (goal.at.ceil_shift-requires c).After-entry_ranks-ranks, c.requires.small_q)
 
 pub spilled_by-requires : goal.spilled_by-requires
 spilled_by-requires c =
@@ -21,7 +21,3 @@ spilled_by-requires c =
       omega (arith, c.ceil_shift.ensures, few (goal.at.spilled_by-requires c).After-entry_ranks-ranks, ceil_le c.entry_ranks-ranks.result (2 ^ q) (pow_pos q)),
       c.requires.small_m,
     )
-
-pub returns : goal.returns
-returns c =
-    rw (c.spilled_by.ensures, c.ceil_shift.ensures, c.entry_ranks-ranks.ensures)

@@ -1,11 +1,11 @@
 -- The return is `is_at` of what `select` answers.
 use Rattle.std.proofs.Common.{ap, sym, ◌∙◌}
-use Rattle.rank_sel.specs.Outcome.{answered}
+use Rattle.rank_sel.specs.Outcome.{outcome}
 use Rattle.replay.specs.Selects.{is_at}
 use Rattle.replay.proofs.answers.is_at.Goals as goal
 
-pub returns-in-Value : goal.returns-in-Value
-returns-in-Value c = ap (is_at _) (sym (ap answered c.in-Value.is) ∙ c.select.ensures)
+pub returns-in-Ok : goal.returns-in-Ok
+returns-in-Ok c = ap (is_at _) (sym (ap outcome c.in-Ok.is) ∙ c.select.ensures)
 
-pub returns-in-Refused : goal.returns-in-Refused
-returns-in-Refused c = ap (is_at _) (sym (ap answered c.in-Refused.is) ∙ c.select.ensures)
+pub returns-in-Err : goal.returns-in-Err
+returns-in-Err c = ap (is_at _) (sym (ap outcome c.in-Err.is) ∙ c.select.ensures)

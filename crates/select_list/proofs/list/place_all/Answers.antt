@@ -1,25 +1,25 @@
 -- The first walk's refusal leaves the places; else they are written by a second walk, or from what the first held aside.
+use mathlib.Core.List.{List, ◌++◌}
+use mathlib.Core.Path.{ap}
+use Prim.Native.Nat.{ℕ}
+use lib.ListN.{length, drop}
 use Rattle.select_list.proofs.Placed.{placed_refused, placed_again, placed_aside}
 use Rattle.select_list.proofs.list.place_all.Goals as goal
 
--- the first walk
-
-pub returns-in_default : goal.returns-in_default
-returns-in_default c =
+pub returns-in_err-total : goal.returns-in_err-total
+returns-in_err-total c =
     let a = c.args in
-    placed_refused a.words.now a.summary a.inventory.now a.spill.now a.ranks.now _ _ a.places.now
-    c.walk_into-walked.result _ c.in_default.is c.walk_into-walked.ensures
+    placed_refused a.words.now a.summary a.inventory.now a.spill.now a.ranks.now _ _ a.places.now _ c.in_err-total.ensures _
+    c.from_residual.ensures
 
-pub returns-then-ranks-gt-HELD : goal.returns-then-ranks-gt-HELD
-returns-then-ranks-gt-HELD c =
+pub returns-then-n-gt-HELD : goal.returns-then-n-gt-HELD
+returns-then-n-gt-HELD c =
     let a = c.args in
-    placed_again a.words.now a.summary a.inventory.now a.spill.now a.ranks.now _ _ a.places.now _
-    c.walk_into-walked.result c.walk_into.result _ c.in-Value.is c.walk_into-walked.ensures
-    c.walk_into.ensures c.requires.2
+    placed_again a.words.now a.summary a.inventory.now a.spill.now a.ranks.now _ _ _ c.in_ok-total.ensures a.places.now _
+    c.walk_into-then-n-gt-HELD.result c.walk_into-then-n-gt-HELD.ensures c.requires.2
 
 pub returns : goal.returns
 returns c =
     let a = c.args in
-    placed_aside a.words.now a.summary a.inventory.now a.spill.now a.ranks.now _ _ a.places.now _
-    c.walk_into-walked.result _ c.in-Value.is c.walk_into-walked.ensures c.if-ranks-gt-HELD.false c.requires.2
-    c.put_first.ensures
+    placed_aside a.words.now a.summary a.inventory.now a.spill.now a.ranks.now _ _ _ c.in_ok-total.ensures a.places.now _
+    c.if-n-gt-HELD.false c.requires.2 (ap (λ (x : List ℕ). x ++ drop (length a.ranks.now) a.places.now) c.copy_from_slice.ensures.after)

@@ -3,7 +3,7 @@ use mathlib.Core.Bool.{Bool}
 use Prim.Native.Nat.{ℕ}
 use native.Mathlib.Omega.{arith}
 use Rattle.bit_record.specs.Record.{selected}
-use Rattle.select_list.proofs.Reading.{read_none, read_later, read_low, read_at}
+use Rattle.select_list.proofs.Reading.{read_none, read_later, read_at}
 use Rattle.select_list.proofs.step.read_from.Goals.{After-seek_on}
 use Rattle.select_list.proofs.step.read_from.Goals as goal
 
@@ -17,25 +17,15 @@ module _ (c : After-seek_on) where
 pub returns-in_default : goal.returns-in_default
 returns-in_default c =
     let a = c.args in
-    λ last d. read_none (f (goal.at.returns-in_default c).After-seek_on) a.plan.len a.rank a.start c.seek_on.result c.seek_on.ensures last
-    c.in_default.is
+    λ last d. read_none (f (goal.at.returns-in_default c).After-seek_on) a.plan.len a.rank a.start c.in_default.ensures last
 
 pub overflow_sub-result : goal.overflow_sub-result
 overflow_sub-result c =
     let a = c.args in
-    let l = read_later (f (goal.at.overflow_sub-result c).After-seek_on) a.plan.len a.rank a.start c.seek_on.result c.seek_on.ensures _ _
-    c.in-At.is in
+    let l = read_later (f (goal.at.overflow_sub-result c).After-seek_on) a.plan.len a.rank a.start _ c.in-Some.ensures in
     omega (arith, l)
-
-pub overflow_add-result : goal.overflow_add-result
-overflow_add-result c =
-    let a = c.args in
-    let q = c.requires in
-    let l = read_low (f (goal.at.overflow_add-result c).After-seek_on) a.plan.len a.rank a.start c.seek_on.result c.seek_on.ensures _ _
-    c.in-At.is in
-    omega (arith, l, q.0.short, q.1.once)
 
 pub returns : goal.returns
 returns c =
     let a = c.args in
-    read_at (f (goal.at.returns c).After-seek_on) a.plan.len a.rank a.start c.seek_on.result c.seek_on.ensures _ _ c.in-At.is
+    λ last d. rw c.from.ensures (read_at (f (goal.at.returns c).After-seek_on) a.plan.len a.rank a.start _ c.in-Some.ensures last d)

@@ -1,14 +1,15 @@
 -- No rank is the largest of none; else the last is.
-use native.Mathlib.Nat.{pos_of_ne-zero}
+use native.Mathlib.Omega.{arith}
 use Rattle.select_list.proofs.Ranks.{large_none, large_some}
 use Rattle.select_list.proofs.tests.is_any_too_large.Goals as goal
 
-pub returns-then-n-eq0 : goal.returns-then-n-eq0
-returns-then-n-eq0 c =
+pub returns-in-Some : goal.returns-in-Some
+returns-in-Some c =
     let a = c.args in
-    large_none a.num a.ranks.now c.if-n-eq0.true
+    let h = c.in-Some.ensures.item in
+    rw (h.3.1 0) (large_some a.num 0 a.ranks.now c.requires h.3.0)
 
-pub returns : goal.returns
-returns c =
-    let a = c.args in
-    large_some a.num 0 a.ranks.now c.requires (pos_of_ne-zero c.if-n-eq0.false)
+pub returns-in-None : goal.returns-in-None
+returns-in-None c =
+    let h = c.in-None.ensures.item in
+    large_none c.args.num c.args.ranks.now (omega (arith, h.3))

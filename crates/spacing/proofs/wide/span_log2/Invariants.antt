@@ -1,10 +1,7 @@
--- L is at most l throughout, at the start by `span_most`: each comparison finds it or lowers l (`span_turn`), and at 0 it is 0.
-use Rattle.std.proofs.Common.{◌<◌, ◌≤◌}
+-- L is below l throughout, at the start by `span_most`: each comparison finds it or lowers l (`span_below`), and below 1 it is 0.
+use Rattle.std.proofs.Common.{◌<◌}
 use Rattle.spacing.specs.Spacing.{span_log2}
 use Rattle.spacing.proofs.wide.span_log2.Given as goal
 
 abbrev pub invariant-loop-l : goal.invariant-loop-l
-invariant-loop-l l = (l.l < 64) × (span_log2 l.num l.span l.len ≤ l.l)
-
-abbrev pub decreases-loop-l : goal.decreases-loop-l
-decreases-loop-l l = l.l
+invariant-loop-l l = span_log2 l.num l.span l.len < l.l

@@ -1,0 +1,17 @@
+-- A record with its plan, and an entry of its index: where the bits stand, and what cells the index has room in.
+use Rattle.std.specs.Prelude.{List, ℕ, ◌≤◌, length}
+use Rattle.inventory.specs.Index.{inventory_len_of}
+use Rattle.build_inventory.specs.Positions.{pos_in, spill_len_of}
+use Rattle.build_inventory.specs.declared.planned.Planned.{Planned}
+use Rattle.build_inventory.specs.declared.planned.Placed.{Placed}
+
+abbrev pub pos_of : Planned → ℕ → ℕ
+pos_of r = pos_in r.words.now r.plan
+
+abbrev pub pos_at : Placed → ℕ → ℕ
+pos_at r = pos_in r.words.now r.plan
+
+-- cells that a record's index has room in
+pub record Lent (r : Planned) (inv sp : List ℕ) : Type 0 where
+  pub cells : inventory_len_of r.plan ≤ length inv
+  pub spills : spill_len_of r.words.now r.plan ≤ length sp
