@@ -33,13 +33,6 @@ mapped f (Ok x) (Ok y) h = ap answer h
 mapped f (Ok x) (Err e) h = absurd h
 mapped f (Err e) s h = ap outcome h
 
--- what the test of polarity and kind found
-pub is_unknown : (b : Bool) (pol kind : ℕ) → b ≡ known pol kind → b ≡ false → known pol kind ≡ false
-is_unknown b pol kind e h = sym e ∙ h
-
-pub is_known : (b : Bool) (pol kind : ℕ) → b ≡ known pol kind → b ≡ true → known pol kind ≡ true
-is_known b pol kind e h = sym e ∙ h
-
 -- a summary goes out as its numbers
 abbrev numbers : Outcome Summary → Outcome (List ℕ)
 numbers o = and_then o (λ t. answer (numbers_of t))

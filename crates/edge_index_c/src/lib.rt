@@ -2,14 +2,14 @@
 // and hands on to the entry that it stands for. The crate edge_index_c_c exports the calls under the same names.
 #![tactic(auto)]
 
-ghost use Rattle.std.specs.Prelude.{◌≡◌, length};
+ghost use Rattle.std.specs.Prelude.{true, false, ◌≡◌, length, MatchOption};
 ghost use Rattle.rank_sel.specs.Outcome.{number_of, outcome};
 ghost use Rattle.select_in_word.specs.Select.{select_in_word};
 ghost use Rattle.edge_index_c.specs.Calls.{BuiltC, ListedC, ReadC, Returned, WroteC, build_c, cells_as, check_c, count_c, dwell_c, hint_as, hint_c, list_c, plan_c, select_c, size_c, sizes_as, subinventory_c, verdict_of, write_c};
-ghost use Rattle.inventory.specs.Numbers.{numbers_of as numbers_in};
+ghost use Rattle.inventory.specs.Numbers.{numbers_of as numbers_in, polarity_at};
 ghost use Rattle.edge_index_c.specs.Codes.{choice_at, known, uncounted};
 
-use edge_index::{CellPart, Choice, Parameters, Refusal, Summary};
+use edge_index::{CellPart, Choice, Parameters, Polarity, Refusal, Summary};
 use inventory::{SUMMARY_NUMBERS, cut, numbers_of, polarity_at, summary_at};
 
 // C's statuses, polarities and kinds are numbers: here they are made of refusals, polarities and choices, and read as such.
@@ -39,6 +39,25 @@ pub fn choice_at(kind: u32, value: u64, percentage: f64, log2: u32) -> Choice
         3 => Choice::Overhead(percentage, log2),
         _ => Choice::Fixed(cut(value), log2),
     }
+}
+
+// The polarity and the choice that C asks for, or nothing where a code is none.
+fn asked(
+    polarity: u32,
+    kind: u32,
+    value: u64,
+    percentage: f64,
+    log2: u32,
+) -> Option<(Polarity, Choice)>
+    ensures { MatchOption result (known polarity kind ≡ false) (λ q. (known polarity kind ≡ true) × (q.0 ≡ polarity_at polarity) × (q.1 ≡ choice_at kind value percentage log2)) }
+{
+    if !is_known(polarity, kind) {
+        return None;
+    }
+    Some((
+        polarity_at(polarity as u64),
+        choice_at(kind, value, percentage, log2),
+    ))
 }
 
 // An answer goes out behind a reference, and a refusal as its number.
@@ -97,11 +116,10 @@ pub fn edge_index_plan(
 ) -> u32
     ensures { Returned (plan_c words.now len polarity kind value percentage log2) result summary.old summary.new }
 {
-    if !is_known(polarity, kind) {
+    let Some((polarity, choice)) = asked(polarity, kind, value, percentage, log2) else {
         return BAD_CODE;
-    }
-    let choice = choice_at(kind, value, percentage, log2);
-    let told = edge_index::plan(words, len, polarity_at(polarity as u64), choice);
+    };
+    let told = edge_index::plan(words, len, polarity, choice);
     give(told.map(uncounted), summary)
 }
 
@@ -118,11 +136,10 @@ pub fn edge_index_size(
 ) -> u32
     ensures { Returned (size_c words.now len polarity kind value percentage log2) result (sizes_as inventory_len.old spill_len.old) (sizes_as inventory_len.new spill_len.new) }
 {
-    if !is_known(polarity, kind) {
+    let Some((polarity, choice)) = asked(polarity, kind, value, percentage, log2) else {
         return BAD_CODE;
-    }
-    let choice = choice_at(kind, value, percentage, log2);
-    match edge_index::size(words, len, polarity_at(polarity as u64), choice) {
+    };
+    match edge_index::size(words, len, polarity, choice) {
         Ok(sizes) => {
             *inventory_len = sizes.inventory;
             *spill_len = sizes.spill;
@@ -147,19 +164,10 @@ pub fn edge_index_build(
 ) -> u32
     ensures { BuiltC words.now (build_c words.now len origin polarity kind value percentage log2 (length inventory.old) (length spill.old)) inventory.old inventory.new spill.old spill.new summary.old summary.new result }
 {
-    if !is_known(polarity, kind) {
+    let Some((polarity, choice)) = asked(polarity, kind, value, percentage, log2) else {
         return BAD_CODE;
-    }
-    let choice = choice_at(kind, value, percentage, log2);
-    let told = edge_index::build(
-        words,
-        len,
-        origin,
-        polarity_at(polarity as u64),
-        choice,
-        inventory,
-        spill,
-    );
+    };
+    let told = edge_index::build(words, len, origin, polarity, choice, inventory, spill);
     give(told.map(numbers), summary)
 }
 
@@ -186,18 +194,17 @@ pub fn edge_index_check(
 ) -> u32
     ensures { Returned (check_c words.now len origin polarity kind value percentage log2 summary.now inventory.now spill.now) result yes.old yes.new }
 {
-    if !is_known(polarity, kind) {
+    let Some((polarity, choice)) = asked(polarity, kind, value, percentage, log2) else {
         return BAD_CODE;
-    }
+    };
     if summary[0] > 1 {
         return BAD_CODE;
     }
-    let choice = choice_at(kind, value, percentage, log2);
     let told = edge_index::check(
         words,
         len,
         origin,
-        polarity_at(polarity as u64),
+        polarity,
         choice,
         summary_at(summary),
         inventory,

@@ -7,21 +7,21 @@ use Rattle.spacing.specs.declared.Choice.{Choice}
 use Rattle.inventory.specs.Numbers.{numbers_of}
 use Rattle.build_inventory.specs.Build.{build_of}
 use Rattle.edge_index_c.specs.Calls.{build_c}
-use Rattle.edge_index_c.proofs.Returns.{ap2, is_known, is_unknown, mapped, built_goes}
+use Rattle.edge_index_c.proofs.Returns.{ap2, mapped, built_goes}
 use Rattle.edge_index_c.proofs.edge_index_build.Goals as goal
 
-pub returns-then-not-is_known : goal.returns-then-not-is_known
+pub returns-in_default : goal.returns-in_default
 unfolding build_c
-returns-then-not-is_known c =
-    rw (is_unknown _ _ _ c.is_known.ensures c.if-not-is_known.true)
+returns-in_default c =
+    rw (c.in_default.ensures)
     (record { returned = record { status = refl; out = refl }; inventory = refl; spill = refl })
 
 pub returns : goal.returns
 unfolding build_c
 returns c =
     let a = c.args in
-    rw (is_known _ _ _ c.is_known.ensures c.if-not-is_known.false)
+    rw (c.in-Some.ensures.0)
     (built_goes
     (ap2 (λ (p : Polarity) (k : Choice). build_of a.words.now a.len a.origin p k (length a.inventory.now) (length a.spill.now))
-    c.polarity_at.ensures c.choice_at-choice.ensures)
+    c.in-Some.ensures.1 c.in-Some.ensures.2)
     c.build-told.ensures (mapped numbers_of _ _ c.map.ensures.cases) c.give.ensures)

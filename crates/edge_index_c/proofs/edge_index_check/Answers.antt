@@ -8,18 +8,18 @@ use Rattle.inventory.specs.declared.summary.Summary.{Summary}
 use Rattle.build_inventory.specs.Build.{check_of}
 use Rattle.edge_index_c.specs.Calls.{check_c, verdict_of}
 use Rattle.edge_index_c.specs.Codes.{choice_at}
-use Rattle.edge_index_c.proofs.Returns.{ap2, is_known, is_unknown, returned_as}
+use Rattle.edge_index_c.proofs.Returns.{ap2, returned_as}
 use Rattle.edge_index_c.proofs.edge_index_check.Goals as goal
 
-pub returns-then-not-is_known : goal.returns-then-not-is_known
+pub returns-in_default : goal.returns-in_default
 unfolding check_c
-returns-then-not-is_known c =
-    rw (is_unknown _ _ _ c.is_known.ensures c.if-not-is_known.true) (record { status = refl; out = refl })
+returns-in_default c =
+    rw (c.in_default.ensures) (record { status = refl; out = refl })
 
 pub returns-then-summary-gt1 : goal.returns-then-summary-gt1
 unfolding check_c
 returns-then-summary-gt1 c =
-    rw (is_known _ _ _ c.is_known.ensures c.if-not-is_known.false, lt-ltb _ _ c.if-summary-gt1.true)
+    rw (c.in-Some.ensures.0, lt-ltb _ _ c.if-summary-gt1.true)
     (record { status = refl; out = refl })
 
 pub returns : goal.returns
@@ -30,10 +30,10 @@ returns c =
     ∙ ap2
     (λ (p : Polarity) (k : Choice). check_of a.words.now a.len a.origin p k c.summary_at.result a.inventory.now
     a.spill.now)
-    c.polarity_at.ensures c.choice_at-choice.ensures
+    c.in-Some.ensures.1 c.in-Some.ensures.2
     ∙ ap
     (λ (t : Summary). check_of a.words.now a.len a.origin (polarity_at a.polarity) (choice_at a.kind a.value a.percentage a.log2)
     t a.inventory.now a.spill.now)
     c.summary_at.ensures in
-    rw (is_known _ _ _ c.is_known.ensures c.if-not-is_known.false, le-ltb _ _ c.if-summary-gt1.false)
+    rw (c.in-Some.ensures.0, le-ltb _ _ c.if-summary-gt1.false)
     (returned_as (c.verdict.ensures ∙ ap verdict_of told) c.give.ensures)

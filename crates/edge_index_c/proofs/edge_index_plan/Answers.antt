@@ -6,21 +6,21 @@ use Rattle.spacing.specs.Spacing.{plan_of}
 use Rattle.spacing.specs.declared.Parameters.{Parameters}
 use Rattle.edge_index_c.specs.Calls.{plan_c}
 use Rattle.edge_index_c.specs.Codes.{uncounted}
-use Rattle.edge_index_c.proofs.Returns.{ap2, is_known, is_unknown, mapped, returned_as}
+use Rattle.edge_index_c.proofs.Returns.{ap2, mapped, returned_as}
 use Rattle.edge_index_c.proofs.edge_index_plan.Goals as goal
 
-pub returns-then-not-is_known : goal.returns-then-not-is_known
+pub returns-in_default : goal.returns-in_default
 unfolding plan_c
-returns-then-not-is_known c =
-    rw (is_unknown _ _ _ c.is_known.ensures c.if-not-is_known.true) (record { status = refl; out = refl })
+returns-in_default c =
+    rw (c.in_default.ensures) (record { status = refl; out = refl })
 
 pub returns : goal.returns
 unfolding plan_c
 returns c =
     let a = c.args in
-    rw (is_known _ _ _ c.is_known.ensures c.if-not-is_known.false)
+    rw (c.in-Some.ensures.0)
     (returned_as
     (mapped (λ p. numbers_of (uncounted p)) _ _ c.map.ensures.cases
     ∙ ap (λ (o : Outcome Parameters). and_then o (λ p. answer (numbers_of (uncounted p))))
-    (c.plan-told.ensures ∙ ap2 (plan_of a.words.now a.len) c.polarity_at.ensures c.choice_at-choice.ensures))
+    (c.plan-told.ensures ∙ ap2 (plan_of a.words.now a.len) c.in-Some.ensures.1 c.in-Some.ensures.2))
     c.give.ensures)
