@@ -1,8 +1,7 @@
 -- How what a call leaves follows from what the entry told.
 use Rattle.std.specs.Prelude.{Result, Ok, Err, IsOkAnd, MatchResult}
-use mathlib.Core.Bool.{Bool, true, false}
 use mathlib.Core.List.{List}
-use mathlib.Core.Path.{◌≡◌, sym, ap, ◌∙◌}
+use mathlib.Core.Path.{◌≡◌, ap, ◌∙◌}
 use Prim.Native.Nat.{ℕ}
 use Rattle.rank_sel.specs.Outcome.{Outcome, answer, refused, outcome, and_then}
 use Rattle.rank_sel.specs.declared.Refusal.{Refusal}
@@ -11,7 +10,6 @@ use Rattle.inventory.specs.declared.summary.Summary.{Summary}
 use Rattle.build_inventory.specs.Build.{BuiltAs, inventory_after, spill_after}
 use Rattle.index_image.specs.Image.{Read}
 use Rattle.edge_index_c.specs.Calls.{Returned, BuiltC, ReadC, status_of, out_of}
-use Rattle.edge_index_c.specs.Codes.{known}
 
 pub ap2 : {A B C : Type 0} (f : A → B → C) {a b : A} {p q : B} → a ≡ b → p ≡ q → f a p ≡ f b q
 ap2 f {a} {b} {p} {q} e g = ap (λ x. f x p) e ∙ ap (f b) g

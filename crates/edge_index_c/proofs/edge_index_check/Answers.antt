@@ -1,6 +1,5 @@
 -- An unknown code, of the call or the summary, is turned down; else the entry's verdict for what they say goes out by `give`.
 use mathlib.Core.Path.{refl, ap, ◌∙◌}
-use borrow.Author.Tests.{lt-ltb, le-ltb}
 use Rattle.bit_record.specs.declared.Polarity.{Polarity}
 use Rattle.spacing.specs.declared.Choice.{Choice}
 use Rattle.inventory.specs.Numbers.{polarity_at}
@@ -16,10 +15,10 @@ unfolding check_c
 returns-in_default c =
     rw (c.in_default.ensures) (record { status = refl; out = refl })
 
-pub returns-then-summary-gt1 : goal.returns-then-summary-gt1
+pub returns-in_default-read : goal.returns-in_default-read
 unfolding check_c
-returns-then-summary-gt1 c =
-    rw (c.in-Some.ensures.0, lt-ltb _ _ c.if-summary-gt1.true)
+returns-in_default-read c =
+    rw (c.in-Some.ensures.0, c.in_default-read.ensures)
     (record { status = refl; out = refl })
 
 pub returns : goal.returns
@@ -28,12 +27,12 @@ returns c =
     let a = c.args in
     let told = c.check-told.ensures
     ∙ ap2
-    (λ (p : Polarity) (k : Choice). check_of a.words.now a.len a.origin p k c.summary_at.result a.inventory.now
+    (λ (p : Polarity) (k : Choice). check_of a.words.now a.len a.origin p k c.in-Some-read.summary a.inventory.now
     a.spill.now)
     c.in-Some.ensures.1 c.in-Some.ensures.2
     ∙ ap
     (λ (t : Summary). check_of a.words.now a.len a.origin (polarity_at a.polarity) (choice_at a.kind a.value a.percentage a.log2)
     t a.inventory.now a.spill.now)
-    c.summary_at.ensures in
-    rw (c.in-Some.ensures.0, le-ltb _ _ c.if-summary-gt1.false)
+    c.in-Some-read.ensures.1 in
+    rw (c.in-Some.ensures.0, c.in-Some-read.ensures.0)
     (returned_as (c.verdict.ensures ∙ ap verdict_of told) c.give.ensures)

@@ -1,6 +1,5 @@
 -- What the entry answers goes out as three numbers, and its refusal as its own.
 use mathlib.Core.Path.{◌≡◌, refl, sym, ap, ◌∙◌}
-use borrow.Author.Tests.{lt-ltb, le-ltb}
 use Rattle.rank_sel.specs.Outcome.{Outcome, answer, and_then}
 use Rattle.inventory.specs.declared.summary.Summary.{Summary}
 use Rattle.read_inventory.specs.Jump.{Part, stored, store_of}
@@ -22,15 +21,15 @@ module _ (c : After-subinventory_part) where
   unfolding subinventory_c
   told =
       let a = c.args in
-      rw (le-ltb _ _ c.if-summary-gt1.false)
+      rw (c.in-Some.ensures.0)
       (ap (λ (o : Outcome Part). and_then o (λ p. answer (part_numbers p)))
       (c.subinventory_part.ensures.0
-      ∙ ap (λ (t : Summary). store_of a.words.now t a.inventory.now a.spill.now a.rank) c.summary_at.ensures))
+      ∙ ap (λ (t : Summary). store_of a.words.now t a.inventory.now a.spill.now a.rank) c.in-Some.ensures.1))
 
-pub returns-then-summary-gt1 : goal.returns-then-summary-gt1
+pub returns-in_default : goal.returns-in_default
 unfolding subinventory_c
-returns-then-summary-gt1 c =
-    rw (lt-ltb _ _ c.if-summary-gt1.true) (record { status = refl; out = refl })
+returns-in_default c =
+    rw (c.in_default.ensures) (record { status = refl; out = refl })
 
 pub returns-in-Ok-Inventory : goal.returns-in-Ok-Inventory
 returns-in-Ok-Inventory c =
