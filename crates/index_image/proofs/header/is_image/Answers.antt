@@ -34,7 +34,7 @@ module _ (c : After-read_header) where
   bs = c.args.bytes.now
 
   small : Below 256 bs
-  small i = (c.shared_slice_known-1.given i).fits
+  small i = omega (arith, c.type_inv.bytes i)
 
   short : length bs < 2 ^ 64
   short = search rules
@@ -45,7 +45,7 @@ module _ (c : After-read_header) where
 
 pub returns-then-len-lt-HEADER_LEN : goal.returns-then-len-lt-HEADER_LEN
 returns-then-len-lt-HEADER_LEN c =
-    is_no c.args.bytes.now (λ i. (c.shared_slice_known-1.given i).fits) (search rules) (λ w. omega (arith, w.end, c.if-len-lt-HEADER_LEN.true))
+    is_no c.args.bytes.now (λ i. omega (arith, c.type_inv.bytes i)) (search rules) (λ w. omega (arith, w.end, c.if-len-lt-HEADER_LEN.true))
 
 pub returns-then-is_end-2 : goal.returns-then-is_end-2
 returns-then-is_end-2 c =

@@ -25,7 +25,7 @@ module _ (c : Else-not-is_image) where
   bs = c.args.bytes.now
 
   small : Below 256 bs
-  small i = (c.shared_slice_known-1.given i).fits
+  small i = omega (arith, c.type_inv.bytes i)
 
   short : length bs < 2 ^ 64
   short = search rules
