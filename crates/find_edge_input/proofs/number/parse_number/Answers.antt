@@ -1,3 +1,4 @@
+-- An empty text and one with another byte are no number; else the digits' value is the number, where it fits.
 use Rattle.std.proofs.Common.{sym, ◌∙◌}
 use Rattle.find_edge_input.specs.Number.{parsed}
 use Rattle.find_edge_input.proofs.number.parse_number.Goals.{then-is_empty-via-then-is_empty, then-is_empty-via-else-is_empty+then-not-all_digits}

@@ -1,3 +1,4 @@
+-- Both sides round to the nearest float, and their quotient too, as the definition has it.
 use Rattle.find_edge_input.specs.Number.{ratio_of}
 use Rattle.find_edge_input.proofs.number.ratio.Goals as goal
 
