@@ -1,4 +1,4 @@
-pub mod Record
+pub mod Selected
 pub mod Seek
 pub mod Same
 pub mod Counted

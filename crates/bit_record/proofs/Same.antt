@@ -7,9 +7,9 @@ use mathlib.Core.List.{List}
 use Prim.Native.Nat.{ℕ, ◌≤◌, ◌<◌}
 use borrow.Author.Tests.{le-ltb}
 use Rattle.rank_sel.specs.Rank.{rank}
-use Rattle.rank_sel.proofs.Numbers.{lt_or_le}
+use Rattle.std.proofs.lemmas.Bool.{cases_lt}
 use Rattle.bit_record.specs.Record.{chosen, selected, num_selected, too_few_words, count_of, SameRecord}
-use Rattle.bit_record.proofs.Record.{selected_in, selected_out}
+use Rattle.bit_record.proofs.Selected.{selected_in, selected_out}
 use Rattle.bit_record.specs.declared.Polarity.{Polarity}
 
 module _ (len : ℕ) (ws vs : List ℕ) (s : SameRecord len ws vs) where
@@ -17,7 +17,7 @@ module _ (len : ℕ) (ws vs : List ℕ) (s : SameRecord len ws vs) where
   selected_same pol = fun_ext λ p. ⊎_elim
       (λ (h : p < len). selected_in pol ws len p h ∙ ap (chosen pol) (s.bits p h) ∙ sym (selected_in pol vs len p h))
       (λ (h : len ≤ p). selected_out pol ws len p h ∙ sym (selected_out pol vs len p h))
-      (lt_or_le p len)
+      (cases_lt p len)
 
   pub words_same : too_few_words ws len ≡ too_few_words vs len
   words_same = le-ltb _ _ s.held ∙ sym (le-ltb _ _ s.held')

@@ -12,7 +12,7 @@ use lib.Count.{ones}
 use lib.Pow.{pow_mono}
 use Rattle.rank_sel.specs.Rank.{rank}
 use Rattle.rank_sel.specs.Seek.{seek, Sought}
-use Rattle.rank_sel.proofs.Numbers.{lt_or_le}
+use Rattle.std.proofs.lemmas.Bool.{cases_lt}
 use Rattle.rank_sel.proofs.Seek.{seek_at, seek_empty, seek_same}
 use Rattle.select_in_word.specs.Bit.{bit}
 use Rattle.select_in_word.specs.Holds.{Holds}
@@ -21,9 +21,11 @@ use Rattle.select_in_word.proofs.Bit.{bit_past}
 use Rattle.select_in_word.proofs.Holds.{holds_from, holds_less, holds_ones, holds_sought}
 use Rattle.select_in_word.proofs.Select.{word_seek_found, word_seek_missing}
 use Rattle.bit_record.specs.Record.{selected, Finds}
+use Rattle.bit_record.specs.Selects.{selects, RecordOf}
 use Rattle.bit_record.specs.declared.Polarity.{Polarity}
-use Rattle.bit_record.specs.declared.Found.{Found}
-use Rattle.bit_record.proofs.Record.{selected_lt, rank_num}
+use Rattle.bit_record.specs.declared.record.Record.{Record}
+use Rattle.bit_record.specs.declared.seeks.Found.{Found}
+use Rattle.bit_record.proofs.Selected.{selected_lt, rank_num}
 
 pub record_at : (pol : Polarity) (ws : List ℕ) (len from k p : ℕ) → from ≤ p → selected pol ws len p ≡ true
     → rank (selected pol ws len) p ≡ rank (selected pol ws len) from + k → some p ≡ seek (selected pol ws len) (len - from) from k
@@ -50,6 +52,11 @@ pub finds_none : (pol : Polarity) (ws : List ℕ) (len from k p : ℕ) → len �
     → rank (selected pol ws len) p ≤ rank (selected pol ws len) from + k → Finds (selected pol ws len) (len - from) from k None
 finds_none pol ws len from k p l r = record { position = record_none pol ws len from k p l r; word = tt }
 
+-- what is found in the record of these
+pub finds_of : (ws : List ℕ) (len : ℕ) (pol : Polarity) (rec : Record) → RecordOf ws len pol rec → (from k : ℕ) (r : Option Found)
+    → Finds (selects rec) (rec.len - from) from k r → Finds (selected pol ws len) (len - from) from k r
+finds_of ws len pol rec e from k r h = rw (← e.words, ← e.len, ← e.polarity) h
+
 -- a seek goes on from a later place with what remains
 seek_on : (pol : Polarity) (ws : List ℕ) (len from k next left : ℕ) → from < len
     → rank (selected pol ws len) next + left ≡ rank (selected pol ws len) from + k
@@ -57,7 +64,7 @@ seek_on : (pol : Polarity) (ws : List ℕ) (len from k next left : ℕ) → from
 seek_on pol ws len from k next left l e =
     ⊎_elim (λ (h : next < len). seek_same (selected pol ws len) (len - next) next left (len - from) from k (omega arith) e)
     (λ (h : len ≤ next).
-    sym (record_none pol ws len next left next h (omega arith)) ∙ record_none pol ws len from k next h (omega arith)) (lt_or_le next len)
+    sym (record_none pol ws len next left next h (omega arith)) ∙ record_none pol ws len from k next h (omega arith)) (cases_lt next len)
 
 pub finds_on : (pol : Polarity) (ws : List ℕ) (len from k next left : ℕ) (r : Option Found) → from < len
     → rank (selected pol ws len) next + left ≡ rank (selected pol ws len) from + k
@@ -70,7 +77,7 @@ sought_narrow m w k p h s = record {
   low = s.low;
   high =
       ⊎_elim (λ (g : p < m). omega arith)
-      (λ (g : m ≤ p). let b = bit_past w m p h g in let t = s.here in let z : ◌≡◌ {A = ℕ} 0 1 = cc in absurd (omega arith)) (lt_or_le p m);
+      (λ (g : m ≤ p). let b = bit_past w m p h g in let t = s.here in cc) (cases_lt p m);
   here = s.here;
   before = s.before;
 }

@@ -10,7 +10,7 @@ use Rattle.select_in_word.specs.Bit.{bit}
 use Rattle.select_in_word.specs.Holds.{Holds}
 use Rattle.bit_record.specs.declared.Polarity.{Polarity}
 use Rattle.bit_record.specs.declared.Polarity.TheVariants.{Ones, Zeros}
-use Rattle.bit_record.specs.declared.Found.{Found}
+use Rattle.bit_record.specs.declared.seeks.Found.{Found}
 
 -- bit p is bit p mod 64, lowest first, of word p div 64
 unfoldable pub bit_at : List ℕ → ℕ → Bool

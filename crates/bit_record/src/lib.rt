@@ -1,25 +1,23 @@
-// One record: lent words of which the first `len` bits count, and a polarity that says which of these are selected.
+// Records: lent words of which the first `len` bits count, and a polarity that says which of these are selected.
 #![tactic(auto)]
 
 ghost use Rattle.std.specs.Prelude.{◌≡◌, ◌+◌, ◌-◌, ◌*◌, ◌/◌, ◌^◌, ◌≤◌, ◌<◌, length};
 ghost use Rattle.rank_sel.specs.Outcome.{outcome, test_by};
 ghost use Rattle.select_in_word.specs.Holds.{Holds};
-ghost use Rattle.bit_record.specs.Record.{Admitted, CountsWords, Finds, bit_at, chosen, complemented, count_of, of_len, of_record_from, origin_too_large, sample_at, selected};
+ghost use Rattle.bit_record.specs.Record.{CountsWords, bit_at, chosen, complemented, count_of, of_len, of_record_from, origin_too_large, sample_at, selected};
+
+mod record;
+mod seeks;
 
 use rank_sel::Refusal;
-use select_in_word::{count_ones, low_bits, mask_tail_word, seek_in_word, seek_near, tail_mask};
+pub use record::Record;
+pub use seeks::Found;
+use select_in_word::{count_ones, mask_tail_word, tail_mask};
 
 #[derive(Clone, Copy, Debug, PartialEq, Eq)]
 pub enum Polarity {
     Ones = 0,
     Zeros = 1,
-}
-
-// What a seek finds in a record: a position, and its word.
-#[derive(Clone, Copy)]
-pub struct Found {
-    pub position: u64,
-    pub word: u64,
 }
 
 // The most that a length may be, and a length after an origin.
@@ -87,7 +85,8 @@ pub fn is_selected(words: &[u64], polarity: Polarity, p: u64) -> bool
     }
 }
 
-// The 64 positions from 64 * i on, a one where the position is selected: none at or past `len`.
+// The 64 positions from 64 * i on, a one where the position is selected: none at or past `len`. Of any words: a `Record`
+// would ask more of a caller.
 pub fn selected_word(words: &[u64], i: usize, len: u64, polarity: Polarity) -> u64
     requires { (i < length words.now) × (64 * i < len) }
     ensures { Holds 64 (selected polarity words.now len) (64 * i) result }
@@ -120,78 +119,4 @@ pub fn count(words: &[u64], len: u64, polarity: Polarity) -> Result<u64, Refusal
         return Ok(total);
     }
     Ok(total + count_ones(selected_word(words, full, len, polarity)))
-}
-
-// The selected position at or after `from` with exactly `k` selected between, `from` included: the loop over words of every
-// seek.
-pub fn seek_from(words: &[u64], len: u64, polarity: Polarity, from: u64, k: u64) -> Option<Found>
-    requires { Admitted words.now len }
-    ensures { Finds (selected polarity words.now len) (len - from) from k result }
-{
-    if len <= from {
-        return None;
-    }
-    let mut remaining = k;
-    let mut shift = from % 64;
-    for i in from / 64..(len + 63) / 64 {
-        let word = selected_word(words, i as usize, len, polarity);
-        match seek_in_word(word >> shift, remaining) {
-            Ok(p) => {
-                let position = 64 * i + shift + p;
-                return Some(Found { position, word });
-            }
-            Err(ones) => remaining -= ones,
-        }
-        shift = 0;
-    }
-    None
-}
-
-// The same from a position whose word is in hand. Neighbours are likely: few are passed.
-pub fn seek_on(
-    words: &[u64],
-    len: u64,
-    polarity: Polarity,
-    from: u64,
-    word: u64,
-    k: u64,
-) -> Option<Found>
-    requires { Admitted words.now len × (from < len) × Holds 64 (selected polarity words.now len) (64 * (from / 64)) word }
-    ensures { Finds (selected polarity words.now len) (len - from) from k result }
-{
-    let shift = from % 64;
-    match seek_near(word >> shift, k) {
-        Ok(p) => {
-            let position = from + p;
-            Some(Found { position, word })
-        }
-        Err(ones) => seek_from(words, len, polarity, from + (64 - shift), k - ones),
-    }
-}
-
-// The words that `seek_far` counts at a time.
-const BLOCK: usize = 8;
-
-// The same for a position that is likely far off: blocks that end before it are counted whole.
-pub fn seek_far(words: &[u64], len: u64, polarity: Polarity, from: u64, k: u64) -> Option<Found>
-    requires { Admitted words.now len × (k ≤ 2 ^ 63) }
-    ensures { Finds (selected polarity words.now len) (len - from) from k result }
-{
-    if len <= from {
-        return None;
-    }
-    let first = (from / 64) as usize;
-    let skipped = low_bits(selected_word(words, first, len, polarity), from % 64);
-    let mut remaining = k + count_ones(skipped);
-    let blocks = ((len / 64) as usize - first) / BLOCK;
-    for block in 0..blocks {
-        let i = first + BLOCK * block;
-        let ones = count_words(&words[i..i + BLOCK], polarity);
-        if remaining < ones {
-            return seek_from(words, len, polarity, 64 * (i as u64), remaining);
-        }
-        remaining -= ones;
-    }
-    let i = (first + BLOCK * blocks) as u64;
-    seek_from(words, len, polarity, 64 * i, remaining)
 }

@@ -12,6 +12,7 @@ use lib.ListN.{length, take, drop, get_or, length-append, length-take}
 use lib.Pow.{pow_pos}
 use lib.Seq.{take-suc, take-add, take-take, take-append-le, take-length, drop_at, length-take-le}
 use borrow.Author.Tests.{eq-eqb, ne_eqb}
+use Rattle.std.proofs.lemmas.Bool.{false_from_ne_true, and_parts}
 use Rattle.rank_sel.specs.Lists.{same_list}
 use Rattle.rank_sel.proofs.Lists.{same_yes, same_is, same_append}
 use Rattle.spacing.specs.Spacing.{M}
@@ -20,7 +21,7 @@ use Rattle.inventory.specs.Index.{entries_of, stride, inventory_len_of, start_of
 use Rattle.inventory.specs.Lanes.{tabulate}
 use Rattle.inventory.specs.declared.entry.Entry.{Entry}
 use Rattle.inventory.proofs.Index.{inventory_more, spill_more, inventory_length, spill_to_length}
-use Rattle.inventory.proofs.Lanes.{turn_more, tab_at}
+use Rattle.inventory.proofs.Lanes.{tab_at}
 use Rattle.inventory.proofs.Marks.{few_heads, heads_length, own_length, spill_length}
 use Rattle.build_inventory.specs.Compare.{same_index}
 use Rattle.build_inventory.proofs.Parts.{part_take}
@@ -30,11 +31,6 @@ use Rattle.build_inventory.proofs.Turns.{Reached, reached_none, reached_more, la
 same_last : (i : List ℕ) (a b : ℕ) → same_list (i ++ (a ∷ [])) (i ++ (b ∷ [])) ≡ eqb a b
 unfolding same_list
 same_last i a b = same_append i i (a ∷ []) (b ∷ []) refl ∙ rw (same_yes i i refl) (and-true (eqb a b))
-
-and_not : (a b : Bool) → (a ≡ true → b ≡ true → ⊥) → a && b ≡ false
-and_not true true n = absurd (n refl refl)
-and_not true false n = refl
-and_not false b n = refl
 
 -- the second of two tests is made where the first says yes
 pub both_yes : (t u a b : Bool) → t ≡ a → t ≡ true → u ≡ b → u ≡ a && b
@@ -209,7 +205,7 @@ module _ {pos : ℕ → ℕ} {p : Parameters} {l s : List ℕ}
             sym (part_take s spilled x.spilled agree_spill) ∙ same_is _ _ (sym eb ∙ z.1) in
             record {
               reached = reached_more v.reached lt ex;
-              place = omega (arith, ec, v.place, turn_more e (stride p));
+              place = omega (arith, ec, v.place);
               inventory =
                   ap (λ (z : ℕ). take (at + z) l) ec
                   ∙ take-add at (stride p) l
@@ -220,7 +216,8 @@ module _ {pos : ℕ → ℕ} {p : Parameters} {l s : List ℕ}
 
         pub agree_stop : a && b ≡ false → false ≡ same_index pos p l s
         unfolding same_index inventory_of spill_of
-        agree_stop n = sym (and_not _ _ (λ y z.
+        agree_stop n = sym (false_from_ne_true _ (λ y.
+            let z = and_parts _ _ y in
             let own = own_length pos (entry_of pos p e) (spill_start pos p e) (2 ^ M p) (few_heads pos p e) (pow_pos (M p)) in
             let spl : length (spill_cells pos (entry_of pos p e) (2 ^ M p)) ≡ x.spilled =
             ap length (sym spill_is) ∙ spill_length pos x (2 ^ M p) in
@@ -228,9 +225,9 @@ module _ {pos : ℕ → ℕ} {p : Parameters} {l s : List ℕ}
             let fs : length (spill_to pos p e) ≡ spilled = spill_to_length pos p e ∙ sym v.reached.spills in
             let i =
             grown_part (inventory_to pos p) (λ k. own_cells pos (entry_of pos p k) (spill_start pos p k) (2 ^ M p)) (inventory_more pos p)
-            l (start_of pos p (entries_of p) ∷ []) e (entries_of p) (inventory_len_of p) lt (same_is _ _ y) (rw fl v.inventory) in
+            l (start_of pos p (entries_of p) ∷ []) e (entries_of p) (inventory_len_of p) lt (same_is _ _ z.0) (rw fl v.inventory) in
             let j = grown_part (spill_to pos p) (λ k. spill_cells pos (entry_of pos p k) (2 ^ M p)) (spill_more pos p)
-            s [] e (entries_of p) (spill_start pos p (entries_of p)) lt (same_is _ _ z ∙ sym (append-nil _)) (rw fs v.spill) in
+            s [] e (entries_of p) (spill_start pos p (entries_of p)) lt (same_is _ _ z.1 ∙ sym (append-nil _)) (rw fs v.spill) in
             let at_yes : a ≡ true = ea ∙ same_yes _ _ (part_take l at (stride p) agree_cells ∙ rw (own, fl) at i ∙ sym own_is) in
             let bt_yes : b ≡ true = eb ∙ same_yes _ _ (part_take s spilled x.spilled agree_spill ∙ rw (spl, fs) at j ∙ sym spill_is) in
             false≢true (sym n ∙ ap₂ ◌&&◌ at_yes bt_yes)))

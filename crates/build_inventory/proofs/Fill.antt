@@ -11,7 +11,7 @@ use Rattle.spacing.specs.declared.Parameters.{Parameters}
 use Rattle.inventory.specs.Index.{entries_of, stride, inventory_len_of, start_of, entry_of, spill_start, inventory_to, spill_to, inventory_of, spill_of, own_cells, spill_cells}
 use Rattle.inventory.specs.declared.entry.Entry.{Entry}
 use Rattle.inventory.proofs.Index.{inventory_more, spill_more, inventory_length, spill_to_length}
-use Rattle.inventory.proofs.Lanes.{turn_more, push}
+use Rattle.inventory.proofs.Lanes.{push}
 use Rattle.build_inventory.specs.Stream.{WroteEntry, Filled}
 use Rattle.build_inventory.proofs.Parts.{part_back, back_long}
 use Rattle.build_inventory.proofs.Turns.{Reached, reached_none, reached_more, last_room, entry_room, spill_room}
@@ -67,7 +67,7 @@ module _ {pos : ℕ → ℕ} {p : Parameters} {l₀ s₀ : List ℕ}
           (e + 1) (at + cells) (spilled + x.spilled) x.next
       stand_more {ys} {zs} ec w hy hz = record {
         reached = reached_more v.reached lt ex;
-        place = omega (arith, ec, v.place, turn_more e (stride p));
+        place = omega (arith, ec, v.place);
         long = back_long l₀ l ys at (length l - at) v.long (omega (arith, stand_cells, v.long)) hy;
         spill_long = back_long s₀ s zs spilled (length s - spilled) v.spill_long (omega (arith, stand_spill, v.spill_long)) hz;
         inventory =

@@ -1,6 +1,6 @@
 pub mod Parts
 pub mod Positions
-pub mod Stream
+pub mod Cells
 pub mod Turns
 pub mod Fill
 pub mod Comparing

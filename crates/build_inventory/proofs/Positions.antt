@@ -8,14 +8,13 @@ use native.Mathlib.Nat.{zero-mul}
 use native.Mathlib.Omega.{arith}
 use borrow.Author.Tests.{lt-ltb, le-ltb}
 use Rattle.rank_sel.specs.Rank.{rank}
-use Rattle.rank_sel.proofs.Numbers.{lt_or_le}
+use Rattle.std.proofs.lemmas.Bool.{cases_lt}
 use Rattle.rank_sel.proofs.Select.{select-seek, select_none, select_first, select_no_first}
 use Rattle.bit_record.specs.Record.{selected, num_selected}
 use Rattle.spacing.specs.Spacing.{N, L, PlanOf}
 use Rattle.spacing.specs.declared.Parameters.{Parameters}
 use Rattle.inventory.specs.Index.{mark, bound, start_of}
 use Rattle.inventory.specs.declared.entry.Entry.{Entry}
-use Rattle.inventory.proofs.Lanes.{turn_more}
 use Rattle.inventory.proofs.Marks.{Streamable, rising, entry_streamable}
 use Rattle.build_inventory.specs.Placed.{pos_at}
 use Rattle.build_inventory.specs.declared.planned.Placed.{Placed}
@@ -39,14 +38,14 @@ module _ (ws : List ℕ) (p : Parameters) (h : PlanOf ws p) where
       (λ (g : r + k < N p). rw (ef, en, lt-ltb (r + k) (N p) g, select-seek bits p.len r k (omega (arith, count))))
       (λ (g : N p ≤ r + k).
       rw (ef, en, le-ltb (r + k) (N p) g, select_none bits p.len r k (omega (arith, count)) (omega (arith, count))))
-      (lt_or_le (r + k) (N p))
+      (cases_lt (r + k) (N p))
 
   pub bound_first : seek_or_end ws p 0 0 ≡ start_of (pos_in ws p) p 0
   unfolding start_of bound
   bound_first = rw (zero-mul (2 ^ L p)) (⊎_elim
       (λ (g : 0 < N p). rw (lt-ltb 0 (N p) g, select_first bits p.len (omega (arith, count))))
       (λ (g : N p ≤ 0). rw (le-ltb 0 (N p) g, select_no_first bits p.len (omega (arith, count))))
-      (lt_or_le 0 (N p)))
+      (cases_lt 0 (N p)))
 
   -- and from one mark to the next
   pub mark_next : (x : Entry) → Streamable (pos_in ws p) p x
@@ -55,7 +54,7 @@ module _ (ws : List ℕ) (p : Parameters) (h : PlanOf ws p) where
   unfolding mark
   mark_next x s k from n l ef en =
       let q = 2 ^ x.log2_quantum in
-      let e : x.first + k * q + q ≡ x.first + (k + 1) * q = omega (arith, turn_more k q) in
+      let e : x.first + k * q + q ≡ x.first + (k + 1) * q = omega arith in
       rw (ef, en, select-seek bits p.len (x.first + k * q) q (omega (arith, s.within (k + 1) l, count)), e)
 
 -- its count and L are small
@@ -63,7 +62,7 @@ pub small : (r : Planned) → (N r.plan < 2 ^ 62) × (L r.plan ≤ 63)
 small r = (omega (arith, r.of.admitted.short, r.of.few), r.of.small_l)
 
 -- what a placed entry's stream needs
-pub streams : (r : Placed) → Streamable (pos_at r) r.plan r.entry
+pub streams : (r : Placed) → Streamable (pos_at r) r.planned.plan r.entry
 streams r =
-    subst⁻¹ (λ (z : Entry). Streamable (pos_at r) r.plan z) r.is
-    (entry_streamable (pos_at r) r.plan (rising r.words.now r.plan r.of) r.number r.within)
+    subst⁻¹ (λ (z : Entry). Streamable (pos_at r) r.planned.plan z) r.is
+    (entry_streamable (pos_at r) r.planned.plan (rising r.planned.words.now r.planned.plan r.planned.of) r.number r.within)

@@ -1,6 +1,6 @@
 -- The comparison of summaries is exact.
 use denote.Enum.Bare.{sameb}
-use mathlib.Core.Bool.{Bool, true, not, ◌&&◌, not-not, and_assoc, and-eq-true_iff, false≢true}
+use mathlib.Core.Bool.{Bool, true, not, ◌&&◌, not-not, and_assoc, and-eq-true_iff}
 use mathlib.Core.Path.{◌≡◌, refl, sym, ap, ◌∙◌}
 use lib.Dec.{eqb}
 use borrow.Author.Tests.{eq-eqb, eqb-true}
@@ -14,8 +14,8 @@ use Rattle.build_inventory.specs.Build.{same_polarity, same_plan, same_summary}
 
 polarity_is : (a b : Polarity) → same_polarity a b ≡ true → a ≡ b
 polarity_is Ones Ones e = refl
-polarity_is Ones Zeros e = absurd (false≢true e)
-polarity_is Zeros Ones e = absurd (false≢true e)
+polarity_is Ones Zeros e = cc
+polarity_is Zeros Ones e = cc
 polarity_is Zeros Zeros e = refl
 
 polarity_same : (a : Polarity) → same_polarity a a ≡ true

@@ -7,7 +7,6 @@ use Rattle.spacing.specs.declared.Parameters.{Parameters}
 use Rattle.inventory.specs.Index.{entries_of, stride, inventory_len_of, start_of, entry_of, spill_start}
 use Rattle.inventory.specs.declared.entry.Entry.{Entry}
 use Rattle.inventory.proofs.Index.{spill_start_none, spill_start_more, spill_start_mono}
-use Rattle.inventory.proofs.Lanes.{turn_more}
 use Rattle.inventory.proofs.Marks.{next_is}
 
 -- ---- n entries of so many cells and the closing cell, against a bound
@@ -39,7 +38,6 @@ last_room p e at h ea = omega (arith, mul-le-mul_right {m = e} {n = entries_of p
 -- and so has an entry before it
 pub entry_room : (p : Parameters) (e at : ℕ) → e < entries_of p → at ≡ e * stride p → stride p + at + 1 ≤ inventory_len_of p
 entry_room p e at h ea =
-    let t = turn_more e (stride p) in
     omega (arith, last_room p (e + 1) (at + stride p) (omega arith) (omega arith))
 
 module _ {pos : ℕ → ℕ} {p : Parameters} {e spilled start : ℕ} (v : Reached pos p e spilled start) (lt : e < entries_of p)

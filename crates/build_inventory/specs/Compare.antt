@@ -1,22 +1,24 @@
 -- What the functions that compare cells with an entry's, and with the whole index, say of them.
-use Rattle.std.specs.Prelude.{Bool, ◌&&◌, List, ◌≡◌, ℕ, ◌+◌, ◌-◌, ◌*◌, length, take, Option, IfSome, is_some}
+use Rattle.std.specs.Prelude.{Bool, ◌&&◌, List, ◌≡◌, ℕ, ◌+◌, ◌-◌, ◌*◌, ◌^◌, length, take, Option, IfSome, is_some}
 use Rattle.rank_sel.specs.Lists.{same_list}
 use Rattle.spacing.specs.declared.Parameters.{Parameters}
 use Rattle.inventory.specs.Index.{stream, own_cells, entries_of, inventory_len_of, spill_start, inventory_of, spill_of}
-use Rattle.inventory.specs.declared.entry.Entry.{Entry}
-use Rattle.build_inventory.specs.Stream.{AtMark}
-use Rattle.build_inventory.specs.declared.entry.Cursor.{Cursor}
+use Rattle.spacing.specs.Spacing.{M}
+use Rattle.build_inventory.specs.Placed.{pos_at}
+use Rattle.build_inventory.specs.declared.planned.Placed.{Placed}
+use Rattle.build_inventory.specs.declared.stream.Stream.{Stream}
 
--- the cells, with the stream from cursor c on; where they agree, the cursor stands behind them
-pub record Compared (pos : ℕ → ℕ) (x : Entry) (c : Cursor) (l : List ℕ) (r : Option Cursor) : Type 0 where
-  pub same : is_some r ≡ same_list l (stream pos x c.k (length l))
-  pub number : IfSome r (λ d. d.k ≡ c.k + length l * x.shape.lanes)
-  pub stands : IfSome r (λ d. AtMark pos x d.at d.k)
+-- the cells, with the stream from where s stands; where they agree, it stands behind them then
+pub record Compared (s : Stream) (l : List ℕ) (o : Option Stream) : Type 0 where
+  pub same : is_some o ≡ same_list l (stream (pos_at s.placed.now) s.placed.now.entry s.k (length l))
+  pub entry : IfSome o (λ t. t.placed.now ≡ s.placed.now)
+  pub number : IfSome o (λ t. t.k ≡ s.k + length l * s.placed.now.entry.shape.lanes)
 
-pub record ComparedOwn (pos : ℕ → ℕ) (x : Entry) (own before : ℕ) (l : List ℕ) (r : Option Cursor) : Type 0 where
-  pub same : is_some r ≡ same_list (take (own + 1) l) (own_cells pos x before own)
-  pub number : IfSome r (λ d. d.k ≡ x.shape.from + (own - x.shape.heads) * x.shape.lanes)
-  pub stands : IfSome r (λ d. AtMark pos x d.at d.k)
+-- the front of the cells, with an entry's own; where they agree, the stream stands at its first lane to spill
+pub record ComparedOwn (r : Placed) (before : ℕ) (l : List ℕ) (o : Option Stream) : Type 0 where
+  pub same : is_some o ≡ same_list (take (2 ^ M r.planned.plan + 1) l) (own_cells (pos_at r) r.entry before (2 ^ M r.planned.plan))
+  pub entry : IfSome o (λ t. t.placed.now ≡ r)
+  pub number : IfSome o (λ t. t.k ≡ r.entry.shape.from + (2 ^ M r.planned.plan - r.entry.shape.heads) * r.entry.shape.lanes)
 
 -- the cells within the counts are the index; what stands past them is passed over
 unfoldable pub same_index : (ℕ → ℕ) → Parameters → List ℕ → List ℕ → Bool

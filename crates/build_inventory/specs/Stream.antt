@@ -1,32 +1,30 @@
 -- What the functions that go through an entry's cells say of them.
-use Rattle.std.specs.Prelude.{List, ◌++◌, ◌≡◌, ℕ, ◌+◌, ◌-◌, ◌*◌, ◌<◌, length, drop}
+use Rattle.std.specs.Prelude.{List, ◌++◌, ◌≡◌, ℕ, ◌+◌, ◌-◌, ◌*◌, ◌^◌, length, drop}
 use Rattle.spacing.specs.declared.Parameters.{Parameters}
-use Rattle.inventory.specs.Index.{mark, stream, own_cells, spill_cells, entries_of, inventory_len_of, spill_start, inventory_of, spill_of}
+use Rattle.inventory.specs.Index.{stream, own_cells, spill_cells, entries_of, inventory_len_of, spill_start, inventory_of, spill_of}
 use Rattle.inventory.specs.declared.entry.Entry.{Entry}
-use Rattle.build_inventory.specs.declared.entry.Cursor.{Cursor}
-use Rattle.build_inventory.specs.declared.entry.Step.{Step}
+use Rattle.spacing.specs.Spacing.{M}
+use Rattle.build_inventory.specs.Placed.{pos_at}
+use Rattle.build_inventory.specs.declared.planned.Placed.{Placed}
+use Rattle.build_inventory.specs.declared.stream.Stream.{Stream}
 
--- a cursor's position is that of mark k, if there is one
-abbrev pub AtMark : (ℕ → ℕ) → Entry → ℕ → ℕ → Type 0
-AtMark pos x at k = k < x.marks → at ≡ mark pos x k
+-- a step of stream s over n lanes gave v, and left it as t
+pub record Stepped (s : Stream) (v n : ℕ) (t : Stream) (r : ℕ) : Type 0 where
+  pub gave : r ≡ v
+  pub entry : t.placed.now ≡ s.placed.now
+  pub number : t.k ≡ s.k + n
 
--- a step from cursor c over n lanes gave v
-pub record Stepped (pos : ℕ → ℕ) (x : Entry) (c : Cursor) (v n : ℕ) (r : Step) : Type 0 where
-  pub gave : r.value ≡ v
-  pub number : r.cursor.k ≡ c.k + n
-  pub stands : AtMark pos x r.cursor.at r.cursor.k
+-- the stream from where s stands stands in the cells
+pub record Wrote (s : Stream) (l₀ l : List ℕ) (t : Stream) : Type 0 where
+  pub cells : l ≡ stream (pos_at s.placed.now) s.placed.now.entry s.k (length l₀)
+  pub entry : t.placed.now ≡ s.placed.now
+  pub number : t.k ≡ s.k + length l₀ * s.placed.now.entry.shape.lanes
 
--- the stream from cursor c on stands in the cells
-pub record Wrote (pos : ℕ → ℕ) (x : Entry) (c : Cursor) (l₀ l : List ℕ) (r : Cursor) : Type 0 where
-  pub cells : l ≡ stream pos x c.k (length l₀)
-  pub number : r.k ≡ c.k + length l₀ * x.shape.lanes
-  pub stands : AtMark pos x r.at r.k
-
--- the entry's own cells stand in front, and the cursor at its first lane to spill
-pub record WroteOwn (pos : ℕ → ℕ) (x : Entry) (own before : ℕ) (l₀ l : List ℕ) (r : Cursor) : Type 0 where
-  pub cells : l ≡ own_cells pos x before own ++ drop (own + 1) l₀
-  pub number : r.k ≡ x.shape.from + (own - x.shape.heads) * x.shape.lanes
-  pub stands : AtMark pos x r.at r.k
+-- the entry's own cells stand in front, and the stream at its first lane to spill
+pub record WroteOwn (r : Placed) (before : ℕ) (l₀ l : List ℕ) (t : Stream) : Type 0 where
+  pub cells : l ≡ own_cells (pos_at r) r.entry before (2 ^ M r.planned.plan) ++ drop (2 ^ M r.planned.plan + 1) l₀
+  pub entry : t.placed.now ≡ r
+  pub number : t.k ≡ r.entry.shape.from + (2 ^ M r.planned.plan - r.entry.shape.heads) * r.entry.shape.lanes
 
 pub record WroteEntry (pos : ℕ → ℕ) (x : Entry) (own before : ℕ) (l₀ l s₀ s : List ℕ) : Type 0 where
   pub cells : l ≡ own_cells pos x before own ++ drop (own + 1) l₀

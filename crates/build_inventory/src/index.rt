@@ -4,17 +4,19 @@ ghost use Rattle.rank_sel.specs.Lists.{same_list};
 ghost use Rattle.rank_sel.specs.Outcome.{answer, outcome, refuse_if};
 ghost use Rattle.spacing.specs.Spacing.{M};
 ghost use Rattle.inventory.specs.Index.{inventory_len_of, own_cells, spill_cells, start_of, stride};
-ghost use Rattle.build_inventory.specs.Compare.{Compared, ComparedOwn, same_index};
+ghost use Rattle.build_inventory.specs.Compare.{ComparedOwn, same_index};
 ghost use Rattle.build_inventory.specs.Placed.{Lent, pos_at, pos_of};
 ghost use Rattle.build_inventory.specs.Positions.{spill_len_of};
-ghost use Rattle.build_inventory.specs.Stream.{AtMark, Filled};
+ghost use Rattle.build_inventory.specs.Stream.{Filled};
 
-use crate::entry::{Cursor, or_end, write_cell};
+use crate::entry::{or_end, write_cell};
 use crate::planned::{Placed, Planned};
-use bit_record::seek_far;
+use crate::stream::Stream;
 use inventory::{entry_count, entry_len};
 use rank_sel::{Refusal, pow2};
 
+// This and what follows, up to `same_index`, are twins of the writers: `write_heads`, `write_own`, `write_entry`, `fill`. One walk
+// for both, over a trait, is no plainer, since each contract has to say both.
 // Whether the cells before an entry's lanes are these.
 fn same_heads(cells: &[u64], heads: u64, first: u64, second: u64) -> bool
     requires { (heads ≤ 1) × (2 ≤ length cells.now) }
@@ -31,49 +33,31 @@ fn same_heads(cells: &[u64], heads: u64, first: u64, second: u64) -> bool
     b == second
 }
 
-// Twins of the writers in entry.rt: one walk for both, over a trait, is no plainer, since each contract has to say both.
 impl Placed<'_> {
-    // Where the stream stands behind these cells, if they are the stream from the cursor on.
-    fn same_cells(&self, c: Cursor, cells: &[u64]) -> Option<Cursor>
-        requires { AtMark (pos_at self.now) self.now.entry c.at c.k × (c.k + 4 * length cells.now + 4 < 2 ^ 63) }
-        ensures { Compared (pos_at self.now) self.now.entry c cells.now result }
-    {
-        let mut cursor = c;
-        for cell in cells {
-            let step = self.next_cell(cursor);
-            if *cell != step.value {
-                return None;
-            }
-            cursor = step.cursor;
-        }
-        Some(cursor)
-    }
-
-    // Where the stream stands behind an entry's own cells, if they are these.
-    fn same_own(&self, before: u64, cells: &[u64]) -> Option<Cursor>
-        requires { stride self.now.plan ≤ length cells.now }
-        ensures { ComparedOwn (pos_at self.now) self.now.entry (2 ^ M self.now.plan) before cells.now result }
+    // The stream behind an entry's own cells, if they are these.
+    fn same_own(&self, before: u64, cells: &[u64]) -> Option<Stream<'_>>
+        requires { stride self.now.planned.plan ≤ length cells.now }
+        ensures { ComparedOwn self.now before cells.now result }
     {
         let x = self.entry;
         let shape = x.shape;
-        let own = pow2(self.plan.log2_words_per_subinventory);
+        let own = pow2(self.planned.plan.log2_words_per_subinventory);
         if !same_heads(cells, shape.heads, x.start + shape.tag, before) {
             return None;
         }
         let from = (1 + shape.heads) as usize;
         let to = (own + 1) as usize;
-        let c = self.first_cursor();
-        self.same_cells(c, &cells[from..to])
+        self.stream().same_cells(&cells[from..to])
     }
 
     // Whether an entry's own cells and those that it spills are these.
     fn same_entry(&self, before: u64, cells: &[u64], spill: &[u64]) -> bool
-        requires { (stride self.now.plan ≤ length cells.now) × (self.now.entry.spilled ≤ length spill.now) }
-        ensures { result ≡ same_list (take (stride self.now.plan) cells.now) (own_cells (pos_at self.now) self.now.entry before (2 ^ M self.now.plan)) && same_list (take self.now.entry.spilled spill.now) (spill_cells (pos_at self.now) self.now.entry (2 ^ M self.now.plan)) }
+        requires { (stride self.now.planned.plan ≤ length cells.now) × (self.now.entry.spilled ≤ length spill.now) }
+        ensures { result ≡ same_list (take (stride self.now.planned.plan) cells.now) (own_cells (pos_at self.now) self.now.entry before (2 ^ M self.now.planned.plan)) && same_list (take self.now.entry.spilled spill.now) (spill_cells (pos_at self.now) self.now.entry (2 ^ M self.now.planned.plan)) }
     {
         let n = self.entry.spilled as usize;
         match self.same_own(before, cells) {
-            Some(c) => self.same_cells(c, &spill[..n]).is_some(),
+            Some(stream) => stream.same_cells(&spill[..n]).is_some(),
             None => false,
         }
     }
@@ -85,7 +69,8 @@ impl Planned<'_> {
         ensures { result ≡ start_of (pos_of self.now) self.now.plan 0 }
     {
         let plan = self.plan;
-        or_end(seek_far(self.words, plan.len, plan.polarity, 0, 0), plan)
+        let record = plan.record(self.words);
+        or_end(record.seek_far(0, 0), plan)
     }
 
     // How many cells the inventory has, where these are at most so many: the count may be over 2^64 - 1.
@@ -118,7 +103,8 @@ impl Planned<'_> {
         spilled
     }
 
-    // Writes the whole index, each entry through its own part of the cells.
+    // Writes the whole index, each entry through its own part of the cells. By places and not by chunks: the closing cell stands
+    // where the last entry ends.
     pub fn fill(&self, inventory: &mut [u64], spill: &mut [u64])
         requires { Lent self.now inventory.old spill.old }
         ensures { Filled (pos_of self.now) self.now.plan inventory.old inventory.new spill.old spill.new }

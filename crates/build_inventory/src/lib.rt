@@ -8,6 +8,7 @@ ghost use Rattle.build_inventory.specs.Build.{BuiltAs, build_from, build_of, che
 mod entry;
 mod index;
 mod planned;
+mod stream;
 
 use bit_record::{Polarity, test_record};
 use inventory::Summary;
@@ -40,16 +41,11 @@ pub fn size(words: &[u64], len: u64, polarity: Polarity, choice: Choice) -> Resu
 }
 
 // The summary of a plan's index, where so many cells are lent for it.
-fn admit_plan(
-    planned: &Planned<'_>,
-    origin: u64,
-    cells: u64,
-    spill_cells: u64,
-) -> Result<Summary, Refusal>
-    ensures { outcome result ≡ build_from planned.now.words.now origin planned.now.plan cells spill_cells }
+fn admit_plan(planned: &Planned<'_>, origin: u64, lent: Sizes) -> Result<Summary, Refusal>
+    ensures { outcome result ≡ build_from planned.now.words.now origin planned.now.plan lent.inventory lent.spill }
 {
-    let sizes = fit(planned, cells)?;
-    if spill_cells < sizes.spill {
+    let sizes = fit(planned, lent.inventory)?;
+    if lent.spill < sizes.spill {
         return Err(Refusal::SpillTooShort);
     }
     Ok(Summary {
@@ -60,21 +56,21 @@ fn admit_plan(
     })
 }
 
-// Every refusal of build and check, before a cell is written or compared.
+// Every refusal of build and check, before a cell is written or compared. Of what is handed in nothing is known yet, and the
+// signatures of both stay as they are: a struct would be made for this call alone.
 fn admit(
     words: &[u64],
     len: u64,
     origin: u64,
     polarity: Polarity,
     choice: Choice,
-    cells: u64,
-    spill_cells: u64,
+    lent: Sizes,
 ) -> Result<Summary, Refusal>
-    ensures { outcome result ≡ build_of words.now len origin polarity choice cells spill_cells }
+    ensures { outcome result ≡ build_of words.now len origin polarity choice lent.inventory lent.spill }
 {
     test_record(words, len, origin)?;
     let plan = plan(words, len, polarity, choice)?;
-    admit_plan(&Planned { words, plan }, origin, cells, spill_cells)
+    admit_plan(&Planned { words, plan }, origin, lent)
 }
 
 // Writes the index of the record, whose bit 0 is sample number `origin`, into the lent cells.
@@ -89,15 +85,11 @@ pub fn build(
 ) -> Result<Summary, Refusal>
     ensures { BuiltAs words.now (build_of words.now len origin polarity choice (length inventory.old) (length spill.old)) inventory.old inventory.new spill.old spill.new result }
 {
-    let summary = admit(
-        words,
-        len,
-        origin,
-        polarity,
-        choice,
-        inventory.len() as u64,
-        spill.len() as u64,
-    )?;
+    let lent = Sizes {
+        inventory: inventory.len() as u64,
+        spill: spill.len() as u64,
+    };
+    let summary = admit(words, len, origin, polarity, choice, lent)?;
     let planned = Planned {
         words,
         plan: summary.plan,
@@ -119,15 +111,11 @@ pub fn check(
 ) -> Result<bool, Refusal>
     ensures { outcome result ≡ check_of words.now len origin polarity choice summary inventory.now spill.now }
 {
-    let right = admit(
-        words,
-        len,
-        origin,
-        polarity,
-        choice,
-        inventory.len() as u64,
-        spill.len() as u64,
-    )?;
+    let lent = Sizes {
+        inventory: inventory.len() as u64,
+        spill: spill.len() as u64,
+    };
+    let right = admit(words, len, origin, polarity, choice, lent)?;
     if summary != right {
         return Ok(false);
     }

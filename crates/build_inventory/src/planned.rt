@@ -17,11 +17,9 @@ pub struct Planned<'a> {
 // Entry `number` of the index.
 #[derive(Clone, Copy)]
 pub struct Placed<'a> {
-    pub words: &'a [u64],
-    pub plan: Parameters,
+    pub planned: Planned<'a>,
     pub number: u64,
     pub entry: Entry,
-    ghost of: { PlanOf words.now plan },
-    ghost within: { number * 2 ^ L plan < N plan },
-    ghost is: { entry ≡ entry_of (pos_in words.now plan) plan number },
+    ghost within: { number * 2 ^ L planned.plan < N planned.plan },
+    ghost is: { entry ≡ entry_of (pos_in planned.words.now planned.plan) planned.plan number },
 }

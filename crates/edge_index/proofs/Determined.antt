@@ -12,7 +12,7 @@ use lib.ListN.{length, get_or}
 use lib.Pow.{pow_pos}
 use Rattle.rank_sel.specs.Lists.{Below}
 use Rattle.rank_sel.specs.Outcome.{answer}
-use Rattle.rank_sel.proofs.Numbers.{lt_or_le}
+use Rattle.std.proofs.lemmas.Bool.{cases_lt}
 use Rattle.bit_record.specs.Record.{bit_of}
 use Rattle.bit_record.specs.declared.Polarity.{Polarity}
 use Rattle.spacing.specs.Spacing.{M}
@@ -82,7 +82,7 @@ module _ (ws : List ℕ) (len origin : ℕ) (pol : Polarity) (choice : Choice) (
         let n = mark_back t inv sp e i (mark pos x i) (mark_is i l) in
         n.1 ∙ ap answer (omega (arith, n.2, ap (λ (y : Shape). y.base) shape_is, lane_in pos x i l)))
         (λ (l : x.marks ≤ i). s.unused e i h l b ∙ ap answer (sym (lane_past pos x i l)))
-        (lt_or_le i x.marks)
+        (cases_lt i x.marks)
 
     -- and so are the cells, each packed from the lanes that are read from it
     shaped_is : Shaped x.shape

@@ -12,7 +12,7 @@ use lib.Seq.{take-append-le, length-take-le}
 use Rattle.rank_sel.specs.Lists.{Below}
 use Rattle.rank_sel.specs.Outcome.{answer, refused, refuse_if}
 use Rattle.rank_sel.proofs.Lists.{below_append, below_drop}
-use Rattle.rank_sel.proofs.Outcome.{never, answer_is, passed_all, passing}
+use Rattle.rank_sel.proofs.Outcome.{answer_is, passed_all, passing}
 use Rattle.inventory.specs.Lawful.{CellsHeld}
 use Rattle.inventory.specs.declared.summary.Summary.{Summary}
 use Rattle.inventory.proofs.Lawful.{cells_held, cells_none}
@@ -167,7 +167,7 @@ module _ (bs : List ℕ) (b : Bytes bs) where
       go true i s d = refl
       go false true s d = absurd (let z : ◌≡◌ {A = ℕ} 6 15 = cc in omega arith)
       go false false true d = absurd (let z : ◌≡◌ {A = ℕ} 7 15 = cc in omega arith)
-      go false false false d = never (sym d)
+      go false false false d = cc
 
   none_written : (inv sp : List ℕ) → (read_of bs inv sp ≡ refused 15) ↔ ((t : Summary) → Written t bs → ⊥)
   unfolding read_of

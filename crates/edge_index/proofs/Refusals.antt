@@ -10,7 +10,7 @@ use lib.ListN.{length, get_or}
 use borrow.Author.Tests.{le-ltb, eqb-false}
 use Rattle.rank_sel.specs.Outcome.{Outcome, answer, refused, refuse_if, or_refuse, Conditions, refuse_by, NoneOf, and_then}
 use Rattle.rank_sel.specs.Seek.{seek}
-use Rattle.rank_sel.proofs.Outcome.{never, tests_more, tests_past}
+use Rattle.rank_sel.proofs.Outcome.{tests_more, tests_past}
 use Rattle.select_in_word.proofs.Bit.{ones_rank}
 use Rattle.select_in_word.proofs.Select.{word_refused, word_missing}
 use Rattle.bit_record.specs.Record.{selected, num_selected, count_of}
@@ -35,15 +35,12 @@ use Rattle.index_image.specs.Image.{image_of, of_writing, write_of, of_reading, 
 use Rattle.edge_index.specs.Refusals.{first_of, InOrder, record_order, record_from_order, choice_order, index_order, plan_in, summary_in, to_six, to_seven, Never, Only10, MakersRefuse, ReadersRefuse, ImagesRefuse, InWordRefuses}
 
 -- ---- chains of tests
-some_none : {B : Type 0} (n : ℕ) → ◌≡◌ {A = Option ℕ} (some n) none → B
-some_none n e = let z : ◌≡◌ {A = ℕ} 0 1 = cc in absurd (omega arith)
-
 pub in_rest : {A : Type 0} (o : Outcome A) → InOrder o [] o
-in_rest o = record { first = λ n e. some_none n (sym e); else = λ e. refl }
+in_rest o = record { first = λ n e. cc; else = λ e. refl }
 
 pub in_refuse : {A : Type 0} (b : Bool) (n : ℕ) (o rest : Outcome A) (cs : Conditions) → InOrder o cs rest
     → InOrder (refuse_if b n o) ((b, n) ∷ cs) rest
-in_refuse true n o rest cs h = record { first = λ m e. let d : n ≡ m = cc in ap refused d; else = λ e. some_none n e }
+in_refuse true n o rest cs h = record { first = λ m e. let d : n ≡ m = cc in ap refused d; else = λ e. cc }
 in_refuse false n o rest cs h = record { first = h.first; else = h.else }
 
 -- tests in their order
@@ -61,7 +58,7 @@ in_then o (c ∷ cs) ds a go rest h k =
     step : (b : Bool) → c.0 ≡ b → (c.0 ≡ false → InOrder (and_then o go) (cs ++ ds) rest) → InOrder (and_then o go) (c ∷ (cs ++ ds)) rest
     step true f ih =
         let e = h.first c.1 (rw f refl) in
-        record { first = λ n g. rw e (let d : c.1 ≡ n = some_is (rw f at g) in ap refused d); else = λ g. some_none c.1 (rw f at g) }
+        record { first = λ n g. rw e (let d : c.1 ≡ n = some_is (rw f at g) in ap refused d); else = λ g. cc (rw f at g) }
       where
         some_is : {x y : ℕ} → ◌≡◌ {A = Option ℕ} (some x) (some y) → x ≡ y
         some_is e = cc
@@ -74,7 +71,7 @@ Unsaid n (c ∷ cs) = (eqb c.1 n ≡ false) × Unsaid n cs
 
 in_never : {A : Type 0} (n : ℕ) (o : Outcome A) (cs : Conditions) (a : A) → InOrder o cs (answer a) → Unsaid n cs → Never n o
 unfolding Unsaid
-in_never n o [] a h u e = never (sym e ∙ h.else refl)
+in_never n o [] a h u e = cc (h.else refl)
 in_never {A} n o (c ∷ cs) a h u e =
     go c.0 refl (λ f. in_never n o cs a (record { first = λ m g. h.first m (rw f g); else = λ g. h.else (rw f g) }) u.1 e)
   where
@@ -156,7 +153,7 @@ module _ (ws : List ℕ) (len origin : ℕ) (pol : Polarity) (choice : Choice) w
 
 -- ---- 10 alone
 ten_answer : {A : Type 0} (a : A) → Only10 (answer a)
-ten_answer a n e = let z : ◌≡◌ {A = ℕ} 0 1 = cc in absurd (omega arith)
+ten_answer a n e = cc
 
 ten_refuse : {A : Type 0} (b : Bool) (o : Outcome A) → Only10 o → Only10 (refuse_if b 10 o)
 ten_refuse true o h n e = cc

@@ -1,5 +1,5 @@
 -- Demand 2, from demand 3 alone: a sound index passes the tests, and its marks lead to the bits, singly and in a list.
-use mathlib.Core.Bool.{Bool, true, false, false≢true}
+use mathlib.Core.Bool.{Bool, true, false}
 use mathlib.Core.List.{List, ◌++◌}
 use mathlib.Core.Logic.{⊎_elim}
 use mathlib.Core.Path.{◌≡◌, refl, sym, ap, ap₂, ◌∙◌, subst}
@@ -13,7 +13,7 @@ use Rattle.rank_sel.specs.Numbers.{sum}
 use Rattle.rank_sel.specs.Outcome.{Outcome, answer, or_refuse, Conditions, refuse_by}
 use Rattle.rank_sel.specs.Rank.{rank}
 use Rattle.rank_sel.specs.Seek.{select}
-use Rattle.rank_sel.proofs.Numbers.{lt_or_le}
+use Rattle.std.proofs.lemmas.Bool.{cases_lt}
 use Rattle.rank_sel.proofs.Outcome.{tests_more, passing}
 use Rattle.rank_sel.proofs.Select.{select_le, select-seek}
 use Rattle.bit_record.specs.Record.{selected, num_selected, bit_of, sample_at}
@@ -50,8 +50,8 @@ finish-mark true f len m j h z = ap (λ (r : ℕ). answer (select f len r)) (ome
 finish-mark false f len m j h z = ap (or_refuse 10) (select-seek f len m j h)
 
 exact_kind : (k : SpanType) → is_u64 k ≡ true → k ≡ U64
-exact_kind U16 e = absurd (false≢true e)
-exact_kind U32 e = absurd (false≢true e)
+exact_kind U16 e = cc
+exact_kind U32 e = cc
 exact_kind U64 e = refl
 
 module _ (ws : List ℕ) (len origin : ℕ) (pol : Polarity) (choice : Choice) (t : Summary) (inv sp : List ℕ)
@@ -170,8 +170,8 @@ module _ (ws : List ℕ) (len origin : ℕ) (pol : Polarity) (choice : Choice) (
       (omega (arith, marks_placed pos p k c.of.spaced i l)) in
       let d = second_right k h (spill_heads pos p k _ q) in
       rw (le-ltb i (near_by x (M p)) b) (omega (arith, spilled_right k h, d, s.spill_len, sum_part (spilled_of pos p) k (entries_of p) h)))
-      (lt_or_le i (near_by x (M p)))))
-      (lt_or_le i x.from))
+      (cases_lt i (near_by x (M p)))))
+      (cases_lt i x.from))
     where
       x : Shape
       x = (entry_of pos p k).shape

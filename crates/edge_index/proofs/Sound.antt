@@ -12,7 +12,7 @@ use lib.Pow.{pow_pos}
 use borrow.Author.Tests.{le-ltb}
 use Rattle.rank_sel.specs.Outcome.{answer}
 use Rattle.rank_sel.specs.Rank.{rank}
-use Rattle.rank_sel.proofs.Numbers.{lt_or_le}
+use Rattle.std.proofs.lemmas.Bool.{cases_lt}
 use Rattle.rank_sel.proofs.Rank.{rank_one}
 use Rattle.rank_sel.proofs.Select.{select_sought, select-rank, select_below, select_le}
 use Rattle.bit_record.specs.Record.{selected, num_selected, bit_of, sample_at}
@@ -80,7 +80,7 @@ module _ (ws : List ℕ) (len : ℕ) (pol : Polarity) (choice : Choice) (p : Par
   covered = ⊎_elim
       (λ (h : entries_of p * 2 ^ L p < N p). absurd (omega (arith, in_entry p (entries_of p) h)))
       (λ (h : N p ≤ entries_of p * 2 ^ L p). h)
-      (lt_or_le (entries_of p * 2 ^ L p) (N p))
+      (cases_lt (entries_of p * 2 ^ L p) (N p))
 
   -- a rank stands before the next mark's
   before_next : (e s : ℕ) → s < ranks_of p e → e * 2 ^ L p + s < next_rank pos p e (s / 2 ^ q_of pos p e)

@@ -1,8 +1,8 @@
 -- The cut to 32 bits alters no answer: a logarithm that it alters was over 63, and stays so.
-use mathlib.Core.Bool.{Bool, true, false, cond, ◌&&◌, ◌||◌}
+use mathlib.Core.Bool.{Bool, true, false, cond, ◌&&◌, and-false, or-true}
 use mathlib.Core.List.{List, ◌++◌}
 use mathlib.Core.Logic.{◌⊎◌, ⊎_elim, inl, inr}
-use mathlib.Core.Path.{◌≡◌, refl, sym, ap, ◌∙◌, fun_ext}
+use mathlib.Core.Path.{◌≡◌, refl, sym, ap, ap₂, ◌∙◌, fun_ext}
 use Prim.Native.Nat.{ℕ, ◌-◌, ◌^◌, ◌≤◌, ◌<◌}
 use native.Mathlib.Omega.{arith}
 use lib.Dec.{eqb}
@@ -10,7 +10,7 @@ use lib.Ieee.{Float}
 use lib.ListN.{length, get_or}
 use borrow.Author.Tests.{lt-ltb, ne_eqb}
 use Rattle.rank_sel.specs.Outcome.{Outcome, answer, refused, refuse_if, Conditions, refuse_by, and_then}
-use Rattle.rank_sel.proofs.Numbers.{lt_or_le}
+use Rattle.std.proofs.lemmas.Bool.{cases_lt}
 use Rattle.bit_record.specs.Record.{len_too_large, origin_too_large, too_few_words, of_record_from, count_of}
 use Rattle.bit_record.specs.declared.Polarity.{Polarity}
 use Rattle.spacing.specs.Spacing.{N, L, M, S, fixed, power, rule, max_log2_words, chosen_plan, plan_of}
@@ -30,7 +30,6 @@ use Rattle.select_list.specs.List.{of_list, walk_of, list_of}
 use Rattle.index_image.specs.Image.{write_of}
 use Rattle.edge_index_c.specs.Codes.{choice_by, choice_at}
 use Rattle.edge_index_c.specs.Logarithms.{SameChoice, SameAnswers}
-use Rattle.edge_index_c.proofs.Returns.{ap2}
 
 -- ---- a choice
 -- as it was handed in
@@ -39,7 +38,7 @@ same n = n
 
 -- a value that is not small stays so
 cut_cases : (n : ℕ) → (cut n ≡ n) ⊎ ((63 < cut n) × (63 < n))
-cut_cases n = ⊎_elim (λ (h : n < 64). inl (omega arith)) (λ (h : 64 ≤ n). inr (omega arith, omega arith)) (lt_or_le n 64)
+cut_cases n = ⊎_elim (λ (h : n < 64). inl (omega arith)) (λ (h : 64 ≤ n). inr (omega arith, omega arith)) (cases_lt n 64)
 
 module _ (pol : Polarity) (len num : ℕ) where
   power_cut : (l m : ℕ) → chosen_plan pol len num (power (cut l) m) ≡ chosen_plan pol len num (power l m)
@@ -98,31 +97,23 @@ module _ (kind value : ℕ) (percentage : Float) (log2 : ℕ) where
 Over : Summary → Type 0
 Over t = (63 < L t.plan) ⊎ ((63 < M t.plan) ⊎ (63 < S t.plan))
 
-or_true : (a : Bool) → a || true ≡ true
-or_true true = refl
-or_true false = refl
-
-and_false : (a : Bool) → a && false ≡ false
-and_false true = refl
-and_false false = refl
-
 over_unlawful : (t : Summary) → Over t → unlawful t ≡ true
 unfolding unlawful Over
 over_unlawful t o = ⊎_elim (λ (h : 63 < L t.plan). large h)
-    (⊎_elim (λ (h : 63 < M t.plan). simp (lt-ltb max_log2_words (M t.plan) (omega arith), or_true))
+    (⊎_elim (λ (h : 63 < M t.plan). simp (lt-ltb max_log2_words (M t.plan) (omega arith), or-true))
     (λ (h : 63 < S t.plan). ⊎_elim
-    (λ (l : L t.plan < 64). simp (ne_eqb (S t.plan) (L t.plan - M t.plan - 2) (λ e. omega arith), or_true))
-    (λ (l : 64 ≤ L t.plan). large (omega arith)) (lt_or_le (L t.plan) 64)))
+    (λ (l : L t.plan < 64). simp (ne_eqb (S t.plan) (L t.plan - M t.plan - 2) (λ e. omega arith), or-true))
+    (λ (l : 64 ≤ L t.plan). large (omega arith)) (cases_lt (L t.plan) 64)))
     o
   where
     large : 63 < L t.plan → unlawful t ≡ true
-    large h = simp (lt-ltb 63 (L t.plan) h, or_true)
+    large h = simp (lt-ltb 63 (L t.plan) h, or-true)
 
 over_differs : (t u : Summary) → Over t → L u.plan ≤ 63 → M u.plan ≤ max_log2_words → S u.plan ≤ 63 → same_summary t u ≡ false
 unfolding same_summary same_plan Over
-over_differs t u o l m s = ⊎_elim (λ (h : 63 < L t.plan). simp (ne_eqb (L t.plan) (L u.plan) (λ e. omega arith), and_false))
-    (⊎_elim (λ (h : 63 < M t.plan). simp (ne_eqb (M t.plan) (M u.plan) (λ e. omega arith), and_false))
-    (λ (h : 63 < S t.plan). simp (ne_eqb (S t.plan) (S u.plan) (λ e. omega arith), and_false))) o
+over_differs t u o l m s = ⊎_elim (λ (h : 63 < L t.plan). simp (ne_eqb (L t.plan) (L u.plan) (λ e. omega arith), and-false))
+    (⊎_elim (λ (h : 63 < M t.plan). simp (ne_eqb (M t.plan) (M u.plan) (λ e. omega arith), and-false))
+    (λ (h : 63 < S t.plan). simp (ne_eqb (S t.plan) (S u.plan) (λ e. omega arith), and-false))) o
 
 -- an unlawful summary is 9, where it is neither 1, 14 nor 2
 refusal_of : List ℕ → ℕ → ℕ → ℕ
@@ -152,7 +143,7 @@ module _ {t u : Summary} where
   tests_alike (equal e) ws inv sp cs rest = ap (λ (z : Summary). refuse_by (of_index ws z inv sp ++ cs z) (rest z)) e
   tests_alike (both e f o p) ws inv sp cs rest =
       unlawful_refused ws t inv sp (cs t) (rest t) (over_unlawful t o)
-      ∙ ap2 (λ (n k : ℕ). refused (refusal_of ws n k)) e f
+      ∙ ap₂ (λ (n k : ℕ). refused (refusal_of ws n k)) e f
       ∙ sym (unlawful_refused ws u inv sp (cs u) (rest u) (over_unlawful u p))
 
   store_alike : Alike t u → (ws inv sp : List ℕ) (r : ℕ) → subinventory_of ws t inv sp r ≡ subinventory_of ws u inv sp r

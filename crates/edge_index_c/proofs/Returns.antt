@@ -8,11 +8,7 @@ use Rattle.rank_sel.specs.declared.Refusal.{Refusal}
 use Rattle.inventory.specs.Numbers.{numbers_of}
 use Rattle.inventory.specs.declared.summary.Summary.{Summary}
 use Rattle.build_inventory.specs.Build.{BuiltAs, inventory_after, spill_after}
-use Rattle.index_image.specs.Image.{Read}
-use Rattle.edge_index_c.specs.Calls.{Returned, BuiltC, ReadC, status_of, out_of}
-
-pub ap2 : {A B C : Type 0} (f : A → B → C) {a b : A} {p q : B} → a ≡ b → p ≡ q → f a p ≡ f b q
-ap2 f {a} {b} {p} {q} e g = ap (λ x. f x p) e ∙ ap (f b) g
+use Rattle.edge_index_c.specs.Calls.{Returned, BuiltC, status_of, out_of}
 
 module _ {A : Type 0} {o : Outcome A} where
   pub returned_no : {n r : ℕ} {x : A} → refused n ≡ o → r ≡ n → Returned o r x x
@@ -43,8 +39,3 @@ module _ {ws : List ℕ} {o q : Outcome Summary} {inv₀ inv sp₀ sp : List ℕ
     inventory = w.inventory ∙ ap (inventory_after ws inv₀) same;
     spill = w.spill ∙ ap (spill_after ws sp₀) same;
   }
-
-module _ {bs inv₀ inv sp₀ sp : List ℕ} {b : Result Summary Refusal} (w : Read bs inv₀ inv sp₀ sp b) where
-  pub read_goes : {m : Outcome (List ℕ)} {out₀ out : List ℕ} {r : ℕ} → m ≡ numbers (outcome b) → Returned m r out₀ out
-      → ReadC bs inv₀ inv sp₀ sp out₀ out r
-  read_goes e g = record { returned = returned_as (e ∙ ap numbers w.told) g; inventory = w.inventory; spill = w.spill }

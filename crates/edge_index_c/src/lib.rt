@@ -12,7 +12,8 @@ ghost use Rattle.edge_index_c.specs.Codes.{choice_at, known, uncounted};
 use edge_index::{CellPart, Choice, Parameters, Polarity, Refusal, Summary};
 use inventory::{SUMMARY_NUMBERS, cut, numbers_of, polarity_at, summary_at};
 
-// C's statuses, polarities and kinds are numbers: here they are made of refusals, polarities and choices, and read as such.
+// C's statuses, polarities and kinds are numbers: here they are made of refusals, polarities and choices, and read as such. Its
+// interface has them beside one another, and a choice in four parts.
 // A polarity or a kind that is none. No refusal has this number.
 const BAD_CODE: u32 = 255;
 
@@ -42,7 +43,7 @@ pub fn choice_at(kind: u32, value: u64, percentage: f64, log2: u32) -> Choice
 }
 
 // The polarity and the choice that C asks for, or nothing where a code is none.
-fn asked(
+pub fn asked(
     polarity: u32,
     kind: u32,
     value: u64,

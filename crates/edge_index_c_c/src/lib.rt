@@ -1,5 +1,6 @@
 // The calls of include/edge_index.h, each exported to C under its own name, with the clauses of the crate edge_index_c,
-// to which it hands on. A slice comes from C as a pointer and a length.
+// to which it hands on: a crate is a library or a static library, and C links the second. A slice comes from C as a pointer and
+// a length.
 #![tactic(auto)]
 
 ghost use Rattle.std.specs.Prelude.{length};

@@ -1,7 +1,8 @@
 -- Laws of the digits of a text, one digit on and at the end.
-use Rattle.std.proofs.Common.{◌≡◌, ℕ, ◌+◌, ◌-◌, ◌*◌, ◌<◌, ◌≤◌, List, [], ◌∷◌, length, get_or, take, drop, sym, ap, ◌∙◌, add-one, arith, length-drop, take_all, drop-cons, le-leb, lt-ltb, le-ltb}
+use Rattle.std.proofs.Common.{◌≡◌, ℕ, ◌+◌, ◌-◌, ◌*◌, ◌<◌, ◌≤◌, List, [], ◌∷◌, length, get_or, take, drop, sym, ap, ◌∙◌, add-one, arith, length-drop, drop-cons, le-leb, lt-ltb, le-ltb}
 use borrow.Author.Tests.{lt-leb}
 use lib.Seq.{drop-length}
+use Rattle.std.proofs.lemmas.List.{take_rest}
 use Rattle.std.specs.Prelude.{Result, Ok, Err}
 use Rattle.find_edge_input.specs.declared.number.NumberError.{NumberError}
 use Rattle.find_edge_input.specs.declared.number.NumberError.TheVariants.{NotANumber}
@@ -30,10 +31,6 @@ module _ (n : ℕ) (text : List ℕ) (i d : ℕ) (h : i < length text) (e : d �
   pub value_over : (m : ℕ) → m ≤ n * 10 + d → m ≤ value_from 0 text
   value_over m o = omega (arith, value_go, value_grows (n * 10 + d) (drop (i + 1) text))
 
--- a part to the end
-rest : (k : ℕ) (text : List ℕ) → take (length text - k) (drop k text) ≡ drop k text
-rest k text = take_all (length text - k) (drop k text) (simp length-drop (omega arith))
-
 -- a percentage by where its point stands and what stands before it
 pub decimal_is : (text : List ℕ) (p : ℕ) (whole : Result ℕ NumberError) → p ≡ index_of 46 text → whole ≡ as_part (parsed (take p text)) → decimal_of text ≡ whole_first text p whole
 unfolding decimal_of
@@ -50,7 +47,7 @@ decimals text p = take (length text - (p + 1)) (drop (p + 1) text)
 
 module _ (text : List ℕ) (p whole : ℕ) (h : p < length text) where
   count : length (decimals text p) ≡ length text - (p + 1)
-  count = rw rest (simp length-drop)
+  count = rw take_rest (simp length-drop)
 
   pub too_fine : 3 < length (decimals text p) → after_whole text p whole ≡ Err NotANumber
   unfolding after_whole
@@ -58,4 +55,4 @@ module _ (text : List ℕ) (p whole : ℕ) (h : p < length text) where
 
   pub with_decimals : length (decimals text p) ≤ 3 → after_whole text p whole ≡ joined whole (as_part (parsed (decimals text p))) (length (decimals text p))
   unfolding after_whole
-  with_decimals m = let k : length text - (p + 1) ≤ 3 = omega (arith, count) in rw (count, rest) (simp (lt-leb _ _ h, le-ltb _ _ k))
+  with_decimals m = let k : length text - (p + 1) ≤ 3 = omega (arith, count) in rw (count, take_rest) (simp (lt-leb _ _ h, le-ltb _ _ k))

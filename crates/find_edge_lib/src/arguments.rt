@@ -1,32 +1,22 @@
 // The command line: each argument ends in a zero byte. Options stand anywhere; of the others the first names the
 // capture, and the rest are edge numbers.
-ghost use Rattle.std.specs.Prelude.{◌≤◌, length, IfOk};
+ghost use Rattle.std.specs.Prelude.{IfOk};
 ghost use Rattle.std.specs.Counts.{IsPrefixLen};
 
 use crate::capture::{CaptureError, read_capture};
-use crate::edges::Edges;
 use crate::report::{Fault, Stop, TextError};
 use crate::saved::open_file;
+use arrayvec::ArrayVec;
 use edge_index::{Choice, Polarity};
 use find_edge_input::{NumberError, parse_decimal, parse_number};
 use std::env::{Env, FillError};
 use std::io::{ErrorKind, Read};
 use std::rt::Files;
 
+pub const MOST_EDGES: usize = 1024;
+
 // The maximum of M, where the user gives a spacing: that of the default.
 const MAX_LOG2_WORDS: u32 = 3;
-
-// An option whose value is the next argument.
-#[derive(Clone, Copy)]
-enum Valued {
-    Samples,
-    Origin,
-    Span,
-    Power,
-    Overhead,
-    Save,
-    Index,
-}
 
 #[derive(Drop)]
 enum Source<F> {
@@ -43,23 +33,21 @@ pub struct Request<'a, F> {
     pub origin: u64,
     pub choice: Choice,
     source: Option<Source<F>>,
-    pub edges: Edges,
+    pub edges: ArrayVec<u64, MOST_EDGES>,
     pub save: Option<&'a [u8]>,
     pub index: Option<F>,
 }
 
-// Puts argument i at `at`, and a zero byte behind it.
-fn put_argument(rt: &impl Env, i: usize, args: &mut [u8], at: usize) -> Result<usize, FillError>
-    requires { at ≤ length args.old }
+// Puts argument i at the start, and a zero byte behind it.
+fn put_argument(rt: &impl Env, i: usize, args: &mut [u8]) -> Result<usize, FillError>
     ensures { IfOk result (λ n. IsPrefixLen n args.new) }
 {
-    let n = rt.arg(i, &mut args[at..])?;
-    if n >= args.len() - at {
+    let n = rt.arg(i, args)?;
+    if n >= args.len() {
         return Err(FillError::TooLong);
     }
-    let end = at + n;
-    args[end] = 0;
-    Ok(end + 1)
+    args[n] = 0;
+    Ok(n + 1)
 }
 
 // Puts the arguments that the program was started with, without its own name, at the start of a buffer, and answers how many
@@ -69,13 +57,9 @@ pub fn gather(rt: &impl Env, args: &mut [u8]) -> Result<usize, Fault>
 {
     let mut at = 0;
     for i in 1..usize::MAX {
-        match put_argument(rt, i, args, at) {
-            Ok(next) => {
-                at = next;
-            }
-            Err(FillError::TooLong) => {
-                return Err(Fault::TooManyArguments);
-            }
+        match put_argument(rt, i, &mut args[at..]) {
+            Ok(n) => at += n,
+            Err(FillError::TooLong) => return Err(Fault::TooManyArguments),
             Err(FillError::NotPresent) => break,
         }
     }
@@ -129,31 +113,10 @@ impl<'a, F: Drop> Request<'a, F> {
             origin: 0,
             choice: Choice::Default,
             source: None,
-            edges: Edges::new(),
+            edges: ArrayVec::new(),
             save: None,
             index: None,
         }
-    }
-
-    // Every power above 63 is refused alike, so 64 stands for them.
-    fn take_value<R: Files<File = F>>(
-        &mut self,
-        rt: &R,
-        option: Valued,
-        text: &'a [u8],
-    ) -> Result<(), Stop<'a>> {
-        match option {
-            Valued::Samples => self.samples = Some(number(text)?),
-            Valued::Origin => self.origin = number(text)?,
-            Valued::Span => self.choice = Choice::Span(number(text)?, MAX_LOG2_WORDS),
-            Valued::Power => {
-                self.choice = Choice::Power(number(text)?.min(64) as u32, MAX_LOG2_WORDS)
-            }
-            Valued::Overhead => self.choice = Choice::Overhead(percentage(text)?, MAX_LOG2_WORDS),
-            Valued::Save => self.save = Some(text),
-            Valued::Index => self.index = Some(open_index(rt, text)?),
-        }
-        Ok(())
     }
 
     fn take_plain<R: Files<File = F>>(&mut self, rt: &R, text: &'a [u8]) -> Result<(), Stop<'a>> {
@@ -161,36 +124,27 @@ impl<'a, F: Drop> Request<'a, F> {
             self.source = Some(open_source(rt, text)?);
             return Ok(());
         }
-        self.edges.push(number(text)?)?;
+        let edge = number(text)?;
+        self.edges
+            .try_push(edge)
+            .map_err(|_| Stop::Fault(Fault::TooManyEdges))
+    }
+
+    // An index is read or written, not both.
+    fn allowed(&self) -> Result<(), Stop<'a>> {
+        if self.save.is_some() && self.index.is_some() {
+            return Err(Stop::Fault(Fault::SaveAndIndex));
+        }
         Ok(())
     }
 
-    // Takes an argument that is no value, and answers the option whose value comes next. Any other text that begins with two
-    // dashes is taken for a misspelt option.
-    fn take_word<R: Files<File = F>>(
-        &mut self,
-        rt: &R,
-        text: &'a [u8],
-    ) -> Result<Option<Valued>, Stop<'a>> {
-        match text {
-            b"--samples" => Ok(Some(Valued::Samples)),
-            b"--origin" => Ok(Some(Valued::Origin)),
-            b"--span" => Ok(Some(Valued::Span)),
-            b"--power" => Ok(Some(Valued::Power)),
-            b"--overhead" => Ok(Some(Valued::Overhead)),
-            b"--save" => Ok(Some(Valued::Save)),
-            b"--index" => Ok(Some(Valued::Index)),
-            b"--help" => Err(Stop::Help),
-            b"--zeros" => {
-                self.polarity = Polarity::Zeros;
-                Ok(None)
-            }
-            [b'-', b'-', ..] => Err(Stop::Text(text, TextError::UnknownOption)),
-            _ => {
-                self.take_plain(rt, text)?;
-                Ok(None)
-            }
-        }
+    // An option's value is the next argument. Where there is none, all arguments were read.
+    fn value(&self, next: Option<&'a [u8]>) -> Result<&'a [u8], Stop<'a>> {
+        let Some(text) = next else {
+            self.allowed()?;
+            return Err(Stop::Fault(Fault::NoValue));
+        };
+        Ok(text)
     }
 }
 
@@ -214,22 +168,35 @@ pub fn parse_arguments<'a, R: Files>(
     args: &'a [u8],
 ) -> Result<Request<'a, R::File>, Stop<'a>> {
     let mut request = Request::new();
-    let mut awaited = None;
-    for argument in args.split_inclusive(|byte| *byte == 0) {
-        let text = argument.strip_suffix(b"\0").unwrap_or(argument);
-        awaited = match awaited {
-            None => request.take_word(rt, text)?,
-            Some(option) => {
-                request.take_value(rt, option, text)?;
-                None
+    let mut texts = args.split_inclusive(|byte| *byte == 0).map(|argument| argument
+        .strip_suffix(b"\0")
+        .unwrap_or(argument));
+    while let Some(text) = texts.next() {
+        match text {
+            b"--samples" => request.samples = Some(number(request.value(texts.next())?)?),
+            b"--origin" => request.origin = number(request.value(texts.next())?)?,
+            b"--span" => {
+                let span = number(request.value(texts.next())?)?;
+                request.choice = Choice::Span(span, MAX_LOG2_WORDS);
             }
-        };
+            b"--power" => {
+                // Every power above 63 is refused alike, so 64 stands for them.
+                let power = number(request.value(texts.next())?)?.min(64) as u32;
+                request.choice = Choice::Power(power, MAX_LOG2_WORDS);
+            }
+            b"--overhead" => {
+                let percent = percentage(request.value(texts.next())?)?;
+                request.choice = Choice::Overhead(percent, MAX_LOG2_WORDS);
+            }
+            b"--save" => request.save = Some(request.value(texts.next())?),
+            b"--index" => request.index = Some(open_index(rt, request.value(texts.next())?)?),
+            b"--help" => return Err(Stop::Help),
+            b"--zeros" => request.polarity = Polarity::Zeros,
+            // Any other text that begins with two dashes is taken for a misspelt option.
+            [b'-', b'-', ..] => return Err(Stop::Text(text, TextError::UnknownOption)),
+            _ => request.take_plain(rt, text)?,
+        }
     }
-    if request.save.is_some() && request.index.is_some() {
-        return Err(Stop::Fault(Fault::SaveAndIndex));
-    }
-    if awaited.is_some() {
-        return Err(Stop::Fault(Fault::NoValue));
-    }
+    request.allowed()?;
     Ok(request)
 }

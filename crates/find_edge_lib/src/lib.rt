@@ -3,7 +3,6 @@
 
 mod arguments;
 mod capture;
-mod edges;
 mod index;
 mod report;
 mod saved;
@@ -32,7 +31,7 @@ pub struct Buffers<'a> {
     pub image: &'a mut [u8],
 }
 
-// The index of a record of `len` samples: from its file, or built.
+// The index of a record of `len` samples: from its file, or built. The lent parts stay apart: line in `answer`.
 fn index_of<F: Read>(
     request: &mut Request<'_, F>,
     words: &[u64],
@@ -105,7 +104,7 @@ fn answer<'a, R: Files + Input>(
     if let Some(name) = request.save {
         index.save(rt, name, image, out)?;
     }
-    index.show(request.edges.ranks(), out)
+    index.show(&request.edges, out)
 }
 
 // The program: arguments that end in a zero byte each, buffers, and where lines and error lines go.

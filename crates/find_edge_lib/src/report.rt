@@ -1,5 +1,5 @@
 // Every line that the program writes. A line goes where the caller says.
-use crate::edges::MOST_EDGES;
+use crate::arguments::MOST_EDGES;
 use edge_index::{MAX_LOG2_WORDS_PER_SUBINVENTORY, Parameters, Polarity, Refusal};
 use std::{fmt, io};
 

@@ -19,7 +19,8 @@ pub fn write_file(rt: &impl Files, name: &[u8], bytes: &[u8]) -> io::Result<()> 
     fs::write(rt, path(name)?, bytes)
 }
 
-// Reads an index from a file. One that fills the buffer is longer than any that the cells hold.
+// Reads an index from a file. One that fills the buffer is longer than any that the cells hold. The lent parts stay apart, as in
+// `index_of`.
 pub fn read_index(
     file: &mut impl Read,
     image: &mut [u8],

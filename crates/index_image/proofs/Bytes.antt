@@ -6,14 +6,15 @@ use native.Mathlib.Nat.{mod-eq_of_lt}
 use native.Mathlib.Numerals.{add-one}
 use native.Mathlib.Omega.{arith}
 use lib.ListN.{length, take, drop, get_or, set, length-append, length-drop}
-use lib.Seq.{ext_get_or, take-suc, length-take-le, take-add, drop-drop, get_or-take, get_or-drop, drop-append-add}
+use lib.Seq.{take-suc, length-take-le, take-add, drop-drop, get_or-take, get_or-drop, drop-append-add}
 use Rattle.std.specs.Simd.{first_chunks}
 use Rattle.std.specs.Int.{w64, to_le_bytes, from_le_bytes}
+use Rattle.std.proofs.lemmas.Nat.{le_bytes_8}
 use Rattle.rank_sel.specs.Lists.{Below}
-use Rattle.rank_sel.proofs.Lists.{below_append, below_none}
+use Rattle.rank_sel.proofs.Lists.{chunk, below_take, below_drop, below_append, below_none}
 use Rattle.inventory.specs.Lanes.{lane_of, pack, tabulate}
 use Rattle.inventory.proofs.Lanes.{pack_ext, pack_lt, tab_length, tab_at, tab_below, tab_more}
-use Rattle.inventory.proofs.Unpack.{pack-lane, lane_lt, lanes_pack}
+use Rattle.inventory.proofs.Unpack.{lane_lt, lanes_pack}
 use Rattle.index_image.specs.Bytes.{word_bytes, bytes_of, word_from, words_from}
 
 -- ---- a word
@@ -32,6 +33,11 @@ word_value w h =
     pack_ext 8 (λ j. get_or (tabulate (lane_of 8 w) 8) j 0) (lane_of 8 w) 8 (λ j l. tab_at (lane_of 8 w) 8 j l)
     ∙ lanes_pack 8 w 8
     ∙ mod-eq_of_lt h
+
+-- the bytes that `to_le_bytes` makes
+pub bytes_le : (w : ℕ) → to_le_bytes w64 w ≡ word_bytes w
+unfolding word_bytes tabulate lane_of
+bytes_le w = let e : w % 256 ≡ w / 1 % 256 = omega arith in rw e
 
 -- the eight bytes from a place on
 module _ (bs : List ℕ) (at : ℕ) where
@@ -53,33 +59,18 @@ module _ (bs : List ℕ) (at : ℕ) where
     word_lt = pack_lt 8 (λ j. get_or bs (at + j) 0) (λ j. h (at + j)) 8
 
     word_bytes_lem : at + 8 ≤ length bs → word_bytes (word_from bs at) ≡ take 8 (drop at bs)
-    unfolding word_bytes word_from
+    unfolding pack
     word_bytes_lem k =
-        let v : ℕ → ℕ = λ j. get_or bs (at + j) 0 in
-        let e = tab_length (lane_of 8 (pack 8 v 8)) 8 in
-        let f = length-take-le 8 (drop at bs) (omega (arith, length-drop at bs)) in
-        ext_get_or 0 (tabulate (lane_of 8 (pack 8 v 8)) 8) (take 8 (drop at bs)) (e ∙ sym f)
-        (λ j g.
-        let l : j < 8 = omega arith in
-        tab_at (lane_of 8 (pack 8 v 8)) 8 j l ∙ pack-lane 8 v (λ i. h (at + i)) 8 j l ∙ sym (byte j l))
+        sym (bytes_le (word_from bs at))
+        ∙ le_bytes_8 (take 8 (drop at bs)) (word_from bs at) (length-take-le 8 (drop at bs) (omega (arith, length-drop at bs)))
+        (below_take 256 8 (drop at bs) (below_drop 256 at bs h)) (rw word_part (omega arith))
 
 -- eights of a list
-chunk : (n : ℕ) (xs : List ℕ) (i : ℕ) → i < n → get_or (first_chunks 8 n xs) i [] ≡ take 8 (drop (8 * i) xs)
-chunk zero xs i h = absurd (omega arith)
-chunk (suc n) xs zero h = refl
-chunk (suc n) xs (suc i) h =
-    chunk n (drop 8 xs) i (omega arith) ∙ ap (take 8) (drop-drop (8 * i) 8 xs ∙ ap (λ (z : ℕ). drop z xs) (omega arith))
-
 pub chunk_word : (bs : List ℕ) (at n i w : ℕ) (chunks : List (List ℕ)) → i < n → chunks ≡ first_chunks 8 n (drop at bs)
     → w ≡ from_le_bytes w64 (get_or chunks i []) → w ≡ word_from bs (at + 8 * i)
 chunk_word bs at n i w chunks h e v =
     word_le bs (at + 8 * i) w
-    (v ∙ ap (λ (z : List (List ℕ)). from_le_bytes w64 (get_or z i [])) e ∙ ap (from_le_bytes w64) (chunk n (drop at bs) i h ∙ ap (take 8) (drop-drop (8 * i) at bs)))
-
--- the bytes that `to_le_bytes` makes
-pub bytes_le : (w : ℕ) → to_le_bytes w64 w ≡ word_bytes w
-unfolding word_bytes tabulate lane_of
-bytes_le w = let e : w % 256 ≡ w / 1 % 256 = omega arith in rw e
+    (v ∙ ap (λ (z : List (List ℕ)). from_le_bytes w64 (get_or z i [])) e ∙ ap (from_le_bytes w64) (chunk 8 n (drop at bs) i h ∙ ap (take 8) (drop-drop (8 * i) at bs)))
 
 -- ---- some words
 pub bytes_length : (ws : List ℕ) → length (bytes_of ws) ≡ 8 * length ws

@@ -8,6 +8,7 @@ use native.Mathlib.Omega.{arith}
 use lib.ListN.{length, take, drop, get_or, length-append, length-drop, take-append-drop}
 use lib.Seq.{take-suc, take_all, drop-drop, length-take-le}
 use borrow.Author.Tests.{not-false}
+use Rattle.std.proofs.lemmas.Bool.{or_parts}
 use Rattle.rank_sel.specs.Lists.{Below}
 use Rattle.rank_sel.specs.Outcome.{any_of, NoneOf}
 use Rattle.rank_sel.proofs.Lists.{same_yes, same_is, each_below}
@@ -20,7 +21,7 @@ use Rattle.inventory.specs.Lawful.{Lawful}
 use Rattle.inventory.specs.Numbers.{polarity_at, polarity_code, cut, summary_at, numbers_of}
 use Rattle.inventory.specs.declared.summary.Summary.{Summary}
 use Rattle.inventory.proofs.Lanes.{tab_at}
-use Rattle.inventory.proofs.Lawful.{or_false, lawful}
+use Rattle.inventory.proofs.Lawful.{lawful}
 use Rattle.index_image.specs.Bytes.{bytes_of, word_from, words_from}
 use Rattle.index_image.specs.Image.{offset_of, header_of, image_of, of_summary_alone, numbers_in, summary_in, inventory_in, spill_in, image_unlawful}
 use Rattle.index_image.proofs.Bytes.{bytes_length, bytes_append, bytes_words, words_inside, words_length, word_lt}
@@ -221,11 +222,11 @@ module _ (bs : List ℕ) (h : Below 256 bs) where
   module _ (k : length bs < 2 ^ 64) (e : image_unlawful bs ≡ false) where
     pub lawful_free : NoneOf (of_summary_alone t)
     unfolding image_unlawful
-    lawful_free = any_none (of_summary_alone t) (or_false _ _ e).0
+    lawful_free = any_none (of_summary_alone t) (or_parts _ _ e).0
 
     pub lawful_back : image_of t (inventory_in bs) (spill_in bs) ≡ bs
     unfolding image_unlawful
-    lawful_back = same_is _ _ (not-false _ (or_false (any_of (of_summary_alone t)) _ e).1)
+    lawful_back = same_is _ _ (not-false _ (or_parts (any_of (of_summary_alone t)) _ e).1)
 
     -- its parts have the lengths that the summary says
     abbrev own : List ℕ

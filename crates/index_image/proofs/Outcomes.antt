@@ -7,10 +7,10 @@ use Prim.Native.Nat.{ℕ, ◌+◌, ◌≤◌}
 use native.Mathlib.Omega.{arith}
 use lib.ListN.{length, take, drop}
 use borrow.Author.Tests.{ltb-false, le-ltb}
-use Rattle.rank_sel.specs.Outcome.{Outcome, answer, refused, number_of, outcome, Conditions, NoneOf, refuse_by, test_by}
+use Rattle.rank_sel.specs.Outcome.{Outcome, answer, refused, number_of, Conditions, NoneOf, refuse_by, test_by}
 use Rattle.rank_sel.specs.declared.Refusal.{Refusal}
 use Rattle.rank_sel.specs.declared.Refusal.TheVariants.{ImageUnlawful}
-use Rattle.rank_sel.proofs.Outcome.{answer_is, then_answer, passed_all, none_split, none_join, tests_handed_on, passed_none, passed_then}
+use Rattle.rank_sel.proofs.Outcome.{none_split, none_join, tests_handed_on, passed_none, passed_then}
 use Rattle.inventory.specs.Lawful.{of_cells, CellsHeld}
 use Rattle.inventory.specs.Numbers.{numbers_of}
 use Rattle.inventory.specs.declared.summary.Summary.{Summary}
@@ -75,16 +75,6 @@ module _ (t : Summary) (inv sp : List ℕ) (lent : ℕ) where
     write_done header bytes₀ bytes eh eb =
         let s = passed_then (of_writing t inv sp lent) told (answer (image_of t inv sp)) in
         record { told = rw (← s) (ap answer (sym long)); bytes_are = rw (← s) (rw eh at eb ∙ put_first (image_of t inv sp) bytes₀) }
-
--- a length that was told is one of the lent bytes
-pub write_fits : (t : Summary) (inv sp bytes₀ bytes : List ℕ) (r : Result ℕ Refusal) (n : ℕ)
-    → Wrote (write_of t inv sp (length bytes₀)) bytes₀ bytes r → r ≡ Ok n → n ≤ length bytes₀
-unfolding write_of
-write_fits t inv sp bytes₀ bytes r n w e =
-    let a = then_answer (write_of t inv sp (length bytes₀)) _ n (sym w.told ∙ ap outcome e) in
-    let p = passed_all (of_writing t inv sp (length bytes₀)) (answer (image_of t inv sp)) a.0 a.1 in
-    let l = (writable t inv sp (length bytes₀) p.0).room in
-    omega (arith, ap length (answer_is p.1), answer_is a.2)
 
 -- ---- reading
 pub read_no : (bs : List ℕ) → image_unlawful bs ≡ true → (inv sp : List ℕ) → Read bs inv inv sp sp (Err ImageUnlawful)

@@ -7,7 +7,8 @@ use native.Mathlib.Omega.{arith}
 use lib.Pow.{pow_pos, pow_mono, pow-add}
 use borrow.Author.Tests.{le-leb, lt-leb}
 use Rattle.rank_sel.specs.Numbers.{ilog2}
-use Rattle.rank_sel.proofs.Numbers.{ilog2_is, ilog2_least, ilog2_most, lt_or_le}
+use Rattle.rank_sel.proofs.Numbers.{ilog2_is, ilog2_least, ilog2_most}
+use Rattle.std.proofs.lemmas.Bool.{cases_lt}
 use Rattle.inventory.specs.Spans.{Case, to, span_cases, taken_by, taken_off}
 
 -- n lines from that of k on, each a doubling longer
@@ -29,7 +30,7 @@ line_of (suc n) j k span l h a b = ⊎_elim
     (λ (g : k ≤ j).
     let e : j ≡ k = omega arith in
     rw (e, le-leb span (2 ^ (k + 15) - 1) (omega arith)))
-    (lt_or_le j k)
+    (cases_lt j k)
 
 -- and none of them reaches a longer span than the last's
 none_of : (n j span : ℕ) → 2 ^ (j + n + 14) ≤ span → taken_by (doublings j n) span ≡ 0

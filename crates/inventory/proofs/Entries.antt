@@ -51,8 +51,8 @@ marks_fit U64 a span l m s ranks i d h c = omega (arith, pow_pos m)
 
 kind_none : (k : SpanType) (h m : ℕ) → k ≡ U16 → spilled_by k h m ≡ 0
 kind_none U16 h m e = refl
-kind_none U32 h m e = let z : ◌≡◌ {A = ℕ} 0 1 = cc in absurd (omega arith)
-kind_none U64 h m e = let z : ◌≡◌ {A = ℕ} 0 1 = cc in absurd (omega arith)
+kind_none U32 h m e = cc
+kind_none U64 h m e = cc
 
 module _ (pos : ℕ → ℕ) (p : Parameters) (e : ℕ) where
   -- an entry by its kind

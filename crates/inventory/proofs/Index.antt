@@ -2,7 +2,7 @@
 use mathlib.Core.Path.{◌≡◌, sym, ap, ◌∙◌}
 use mathlib.Core.List.{◌++◌}
 use Prim.Native.Nat.{ℕ, zero, suc, ◌+◌, ◌*◌, ◌^◌, ◌≤◌}
-use native.Mathlib.Nat.{zero-mul, suc-mul}
+use native.Mathlib.Nat.{zero-mul}
 use native.Mathlib.Numerals.{add-one}
 use native.Mathlib.Omega.{arith}
 use lib.ListN.{length, length-append}
@@ -12,7 +12,6 @@ use Rattle.spacing.specs.Spacing.{L, M}
 use Rattle.spacing.specs.declared.Parameters.{Parameters}
 use Rattle.inventory.specs.Index.{stride, entry_of, own_cells, spill_cells, spill_start, inventory_to, spill_to}
 use Rattle.inventory.proofs.Marks.{few_heads, few_spilled, own_length, spill_length}
-use Rattle.inventory.proofs.Lanes.{turn_more}
 
 module _ (pos : ℕ → ℕ) (p : Parameters) where
   pub spill_start_none : spill_start pos p 0 ≡ 0
@@ -31,7 +30,7 @@ module _ (pos : ℕ → ℕ) (p : Parameters) where
   pub spill_start_few : (e : ℕ) → spill_start pos p e ≤ e * 2 ^ L p
   spill_start_few zero = omega (arith, spill_start_none)
   spill_start_few (suc e) =
-      omega (arith, spill_start_few e, spill_start_more e, ap (spill_start pos p) (add-one e), few_spilled pos p e, suc-mul e (2 ^ L p))
+      omega (arith, spill_start_few e, spill_start_more e, ap (spill_start pos p) (add-one e), few_spilled pos p e)
 
   pub inventory_more : (e : ℕ)
       → inventory_to pos p (e + 1) ≡ inventory_to pos p e ++ own_cells pos (entry_of pos p e) (spill_start pos p e) (2 ^ M p)
@@ -51,7 +50,7 @@ module _ (pos : ℕ → ℕ) (p : Parameters) where
         inventory_length e,
         own_length pos (entry_of pos p e) (spill_start pos p e) (2 ^ M p) (few_heads pos p e) (pow_pos (M p)),
       )
-      (sym (turn_more e (stride p)) ∙ ap (λ (z : ℕ). z * stride p) (add-one e))
+      (omega arith)
 
   pub spill_to_length : (e : ℕ) → length (spill_to pos p e) ≡ spill_start pos p e
   unfolding spill_to

@@ -3,7 +3,7 @@ use mathlib.Core.Path.{◌≡◌, refl, ap, ◌∙◌, subst}
 use mathlib.Core.Logic.{⊎_elim}
 use mathlib.Core.List.{List, [], ◌∷◌, ◌++◌, append_assoc}
 use Prim.Native.Nat.{ℕ, zero, suc, ◌+◌, ◌*◌, ◌%◌, ◌^◌, ◌≤◌, ◌<◌}
-use native.Mathlib.Nat.{add-mul, one-mul, zero-mul, mul-suc, mul-zero, lt_of_lt_of_le, mul-le-mul_left}
+use native.Mathlib.Nat.{mul-zero, lt_of_lt_of_le, mul-le-mul_left}
 use native.Mathlib.Numerals.{add-one}
 use native.Mathlib.Omega.{arith}
 use lib.Arith.{digits_lt}
@@ -12,12 +12,8 @@ use lib.Pow.{pow_mono, pow-add, shl_exact}
 use lib.Seq.{drop-cons, set_at, get_or_at}
 use Rattle.rank_sel.specs.Lists.{Below}
 use Rattle.rank_sel.proofs.Lists.{below_append, below_none, below_cons}
-use Rattle.rank_sel.proofs.Numbers.{lt_or_le}
+use Rattle.std.proofs.lemmas.Bool.{cases_lt}
 use Rattle.inventory.specs.Lanes.{pack, tabulate}
-
--- one turn more
-pub turn_more : (i w : ℕ) → (i + 1) * w ≡ i * w + w
-turn_more i w = add-mul i 1 w ∙ ap (λ (z : ℕ). i * w + z) (one-mul w)
 
 -- ---- lanes in a cell
 pub pack-zero : (w : ℕ) (v : ℕ → ℕ) → pack w v 0 ≡ 0
@@ -32,7 +28,7 @@ pub pack_lt : (w : ℕ) (v : ℕ → ℕ) → ((t : ℕ) → v t < 2 ^ w) → (n
 unfolding pack
 pack_lt w v h zero = rw mul-zero (omega arith)
 pack_lt w v h (suc n) =
-    let e : 2 ^ (w * suc n) ≡ 2 ^ w * 2 ^ (w * n) = ap (λ (z : ℕ). 2 ^ z) (mul-suc w n ∙ omega arith) ∙ pow-add 2 w (w * n) in
+    let e : 2 ^ (w * suc n) ≡ 2 ^ w * 2 ^ (w * n) = ap (λ (z : ℕ). 2 ^ z) (omega arith) ∙ pow-add 2 w (w * n) in
     let d = digits_lt {q = v n} {m = 2 ^ w} {r = pack w v n} {c = 2 ^ (w * n)} (h n) (pack_lt w v h n) in
     rw e (omega arith)
 
@@ -43,10 +39,10 @@ pack_ext w u v (suc n) h = rw (pack_ext w u v n (λ t l. h t (omega arith)), h n
 
 -- lane t of w bits stands in a cell of 64
 pub lane_fits : (w n t : ℕ) → w * n ≡ 64 → t < n → w + w * t ≤ 64
-lane_fits w n t e l = omega (arith, mul-suc w t, mul-le-mul_left {m = suc t} {n = n} w l)
+lane_fits w n t e l = omega (arith, mul-le-mul_left {m = suc t} {n = n} w l)
 
 pub some_width : (w n : ℕ) → w * n ≡ 64 → 0 < w
-some_width zero n e = absurd (omega (arith, zero-mul n))
+some_width zero n e = absurd (omega arith)
 some_width (suc w) n e = omega arith
 
 lane_put : (w n t shift v : ℕ) → w * n ≡ 64 → t < n → shift ≡ w * t → v < 2 ^ w → v * 2 ^ shift % 2 ^ 64 ≡ v * 2 ^ (w * t)
@@ -82,7 +78,7 @@ tab_at v (suc n) i h = ⊎_elim
     (λ (l : n ≤ i).
     let e : n ≡ i = omega arith in
     get_or_at (tabulate v n) (v n) [] 0 i (tab_length v n ∙ e) ∙ ap v e)
-    (lt_or_le i n)
+    (cases_lt i n)
 
 pub tab_below : (m : ℕ) (v : ℕ → ℕ) → 0 < m → ((i : ℕ) → v i < m) → (n : ℕ) → Below m (tabulate v n)
 unfolding tabulate

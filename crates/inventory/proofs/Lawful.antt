@@ -1,5 +1,5 @@
 -- The tests of a summary and its cells: what passing them shows, and how the inventory count is held to its rule without being reckoned.
-use mathlib.Core.Bool.{Bool, true, false, false≢true, ◌||◌}
+use mathlib.Core.Bool.{Bool, true, false}
 use mathlib.Core.List.{List}
 use mathlib.Core.Path.{◌≡◌, refl, sym, ap, ◌∙◌}
 use Prim.Native.Nat.{ℕ, ◌+◌, ◌-◌, ◌*◌, ◌/◌, ◌%◌, ◌^◌, ◌≤◌, ◌<◌}
@@ -7,6 +7,7 @@ use native.Mathlib.Nat.{mul-div_left, div-mul-le_self, mod-eq_of_lt}
 use native.Mathlib.Omega.{arith}
 use lib.Dec.{eqb}
 use borrow.Author.Tests.{ltb-false, le-ltb, eqb-true, eqb-false, eq-eqb, ne_eqb, not-false}
+use Rattle.std.proofs.lemmas.Bool.{or_parts}
 use Rattle.rank_sel.specs.Outcome.{NoneOf}
 use Rattle.spacing.specs.Spacing.{N, L, M, S, max_log2_words}
 use Rattle.inventory.specs.Index.{inventory_len_of}
@@ -14,17 +15,13 @@ use Rattle.inventory.specs.Lawful.{unlawful, of_cells, Lawful, CellsHeld}
 use Rattle.inventory.specs.declared.summary.Summary.{Summary}
 
 -- ---- both ways between the condition and the rules
-pub or_false : (a b : Bool) → a || b ≡ false → (a ≡ false) × (b ≡ false)
-or_false true b e = absurd (false≢true (sym e))
-or_false false b e = (refl, e)
-
 pub lawful : (t : Summary) → unlawful t ≡ false → Lawful t
 unfolding unlawful
 lawful t e =
-    let counted = or_false _ _ e in
-    let spaced = or_false _ _ counted.0 in
-    let small_m = or_false _ _ spaced.0 in
-    let small_l = or_false _ _ small_m.0 in
+    let counted = or_parts _ _ e in
+    let spaced = or_parts _ _ counted.0 in
+    let small_m = or_parts _ _ spaced.0 in
+    let small_l = or_parts _ _ small_m.0 in
     record {
       few = ltb-false _ _ small_l.0;
       small_l = ltb-false _ _ small_l.1;

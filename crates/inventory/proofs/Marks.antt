@@ -12,7 +12,7 @@ use lib.Pow.{pow_pos}
 use borrow.Author.Tests.{lt-ltb, le-ltb, leb-true}
 use Rattle.rank_sel.specs.Numbers.{ceil_div}
 use Rattle.rank_sel.proofs.Ceil.{ceil_le, ceil_lt}
-use Rattle.rank_sel.proofs.Numbers.{lt_or_le}
+use Rattle.std.proofs.lemmas.Bool.{cases_lt}
 use Rattle.bit_record.specs.Record.{bit_of}
 use Rattle.bit_record.proofs.Bits.{bits_rise, bit_below}
 use Rattle.spacing.specs.Spacing.{N, L, M, S, PlanOf}
@@ -23,7 +23,7 @@ use Rattle.inventory.specs.declared.entry.Entry.{Entry}
 use Rattle.inventory.specs.declared.shape.Shape.{Shape}
 use Rattle.inventory.specs.declared.shape.SpanType.{SpanType}
 use Rattle.inventory.specs.declared.shape.SpanType.TheVariants.{U16, U32, U64}
-use Rattle.inventory.proofs.Lanes.{turn_more, tab_length}
+use Rattle.inventory.proofs.Lanes.{tab_length}
 use Rattle.inventory.proofs.Shapes.{shaped}
 
 -- ---- kinds
@@ -95,7 +95,7 @@ pub lane_lt : (pos : ℕ → ℕ) (p : Parameters) (x : Entry) → Streamable po
 lane_lt pos p x s i = ⊎_elim
     (λ (g : i < x.marks). rw (lane_in pos x i g) (s.small i g))
     (λ (g : x.marks ≤ i). rw (lane_past pos x i g) (pow_pos x.shape.width))
-    (lt_or_le i x.marks)
+    (cases_lt i x.marks)
 
 -- ---- what is asked of the positions and the plan
 pub record Rising (pos : ℕ → ℕ) (p : Parameters) : Type 0 where
@@ -122,7 +122,7 @@ module _ (pos : ℕ → ℕ) (p : Parameters) where
 
   pub start_next : (e : ℕ) → start_of pos p (e + 1) ≡ bound pos p (e * 2 ^ L p + 2 ^ L p)
   unfolding start_of
-  start_next e = ap (bound pos p) (turn_more e (2 ^ L p))
+  start_next e = ap (bound pos p) (omega arith)
 
   pub next_is : (e : ℕ) → (entry_of pos p e).next ≡ start_of pos p (e + 1)
   unfolding entry_of entry_from
@@ -158,14 +158,14 @@ module _ (pos : ℕ → ℕ) (p : Parameters) where
     bound_gt r s l n = ⊎_elim
         (λ (g : s < N p). rw (lt-ltb s (N p) g) (h.rises r s l g))
         (λ (g : N p ≤ s). rw (le-ltb s (N p) g) (omega (arith, h.below r n)))
-        (lt_or_le s (N p))
+        (cases_lt s (N p))
 
     pub bound_small : (s : ℕ) → bound pos p s < 2 ^ 62
     unfolding bound
     bound_small s = ⊎_elim
         (λ (g : s < N p). rw (lt-ltb s (N p) g) (omega (arith, h.short, h.below s g)))
         (λ (g : N p ≤ s). rw (le-ltb s (N p) g) (omega (arith, h.short)))
-        (lt_or_le s (N p))
+        (cases_lt s (N p))
 
     from_start : (r k : ℕ) → r + k < N p → pos r ≤ pos (r + k)
     from_start r zero l = let e : r + 0 ≡ r = omega arith in rw e (omega arith)

@@ -11,7 +11,7 @@ use lib.ListN.{length, get_or, take, length-append, get_or-append}
 use lib.Pow.{pow_pos}
 use lib.Seq.{get_or-append-add, get_or_at}
 use Rattle.rank_sel.proofs.Lists.{front_is}
-use Rattle.rank_sel.proofs.Numbers.{lt_or_le, lt_suc_cases}
+use Rattle.std.proofs.lemmas.Bool.{cases_lt}
 use Rattle.spacing.specs.Spacing.{M}
 use Rattle.spacing.specs.declared.Parameters.{Parameters}
 use Rattle.inventory.specs.Index.{entries_of, stride, inventory_len_of, lane, packed, stream, own_cells, spill_cells, start_of, entry_of, spill_start, inventory_to, spill_to, inventory_of, spill_of}
@@ -81,25 +81,27 @@ module _ (pos : ℕ → ℕ) (p : Parameters) where
   inventory_at : (n e j : ℕ) → e < n → j < stride p → get_or (inventory_to pos p n) (e * stride p + j) 0 ≡ get_or (own_of e) j 0
   unfolding inventory_to
   inventory_at zero e j h l = absurd (omega arith)
-  inventory_at (suc n) e j h l = lt_suc_cases
-      (λ (e : ℕ). (e < n → get_or (inventory_to pos p n) (e * stride p + j) 0 ≡ get_or (own_of e) j 0) → get_or (inventory_to pos p n ++ own_of n)
-      (e * stride p + j) 0 ≡ get_or (own_of e) j 0)
-      e n h
-      (λ k ih. get_or-append (inventory_to pos p n) (own_of n) 0 (e * stride p + j) (rw (inventory_length pos p n) (digits_lt k l)) ∙ ih k)
-      (λ ih. rw (← inventory_length pos p n) (get_or-append-add (inventory_to pos p n) (own_of n) j 0))
-      (λ k. inventory_at n e j k l)
+  inventory_at (suc n) e j h l = ⊎_elim
+      (λ (k : e < n).
+      get_or-append (inventory_to pos p n) (own_of n) 0 (e * stride p + j) (rw (inventory_length pos p n) (digits_lt k l))
+      ∙ inventory_at n e j k l)
+      (λ (k : n ≤ e).
+      let q : e ≡ n = omega arith in
+      rw (q, ← inventory_length pos p n) (get_or-append-add (inventory_to pos p n) (own_of n) j 0))
+      (cases_lt e n)
 
   spill_at : (n e j : ℕ) → e < n → j < (entry_of pos p e).spilled → get_or (spill_to pos p n) (spill_start pos p e + j) 0 ≡ get_or (over_of e) j 0
   unfolding spill_to
   spill_at zero e j h l = absurd (omega arith)
-  spill_at (suc n) e j h l = lt_suc_cases
-      (λ (e : ℕ). j < (entry_of pos p e).spilled → (e < n → get_or (spill_to pos p n) (spill_start pos p e + j) 0 ≡ get_or (over_of e) j 0)
-      → get_or (spill_to pos p n ++ over_of n) (spill_start pos p e + j) 0 ≡ get_or (over_of e) j 0)
-      e n h
-      (λ k b ih. get_or-append (spill_to pos p n) (over_of n) 0 (spill_start pos p e + j)
-      (rw (spill_to_length pos p n) (omega (arith, spill_start_more pos p e, spill_start_mono pos p (e + 1) n (omega arith)))) ∙ ih k)
-      (λ b ih. rw (← spill_to_length pos p n) (get_or-append-add (spill_to pos p n) (over_of n) j 0))
-      l (λ k. spill_at n e j k l)
+  spill_at (suc n) e j h l = ⊎_elim
+      (λ (k : e < n).
+      get_or-append (spill_to pos p n) (over_of n) 0 (spill_start pos p e + j)
+      (rw (spill_to_length pos p n) (omega (arith, spill_start_more pos p e, spill_start_mono pos p (e + 1) n (omega arith))))
+      ∙ spill_at n e j k l)
+      (λ (k : n ≤ e).
+      let q : e ≡ n = omega arith in
+      rw (q, ← spill_to_length pos p n) (get_or-append-add (spill_to pos p n) (over_of n) j 0))
+      (cases_lt e n)
 
   pub length_inventory : length (inventory_of pos p) ≡ inventory_len_of p
   unfolding inventory_of inventory_len_of
@@ -162,7 +164,7 @@ module _ (pos : ℕ → ℕ) (x : Entry) (hh : x.shape.heads ≤ 1) (before own 
       let j : ℕ = c - (1 + x.shape.heads) in
       let b : j < own - x.shape.heads = omega arith in
       subst (λ (n : ℕ). v n ≡ get_or (own_cells pos x before own) n 0) (omega arith) (others j b ∙ sym (own_cell pos x hh before own j b)))
-      (lt_or_le c (1 + x.shape.heads))
+      (cases_lt c (1 + x.shape.heads))
 
 -- cells placed are the same within the counts
 module _ (pos : ℕ → ℕ) (p : Parameters) (a b c d : List ℕ) (w : Placed pos p a b) (z : Placed pos p c d) where
@@ -178,7 +180,7 @@ module _ (pos : ℕ → ℕ) (p : Parameters) (a b c d : List ℕ) (w : Placed p
       (λ (l : entries_of p * stride p ≤ i).
       let e : i ≡ entries_of p * stride p = omega arith in
       rw e (w.closing ∙ sym z.closing))
-      (lt_or_le i (entries_of p * stride p))
+      (cases_lt i (entries_of p * stride p))
 
   same_spill : (i : ℕ) → i < spill_start pos p (entries_of p) → get_or b i 0 ≡ get_or d i 0
   unfolding spill_start

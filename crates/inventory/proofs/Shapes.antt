@@ -1,6 +1,6 @@
 -- The facts of a shape, for every kind alike: 1, 2 or 4 lanes fill a cell, and the rest follows from that.
 use mathlib.Core.Path.{refl}
-use Prim.Native.Nat.{ℕ, ◌*◌, ◌≤◌, ◌<◌}
+use Prim.Native.Nat.{ℕ, ◌<◌}
 use native.Mathlib.Omega.{arith}
 use lib.Pow.{pow_pos}
 use Rattle.rank_sel.proofs.Numbers.{lt_pow}
@@ -8,7 +8,6 @@ use Rattle.inventory.specs.Shape.{shape_of, Shaped}
 use Rattle.inventory.specs.declared.shape.Shape.{Shape}
 use Rattle.inventory.specs.declared.shape.SpanType.{SpanType}
 use Rattle.inventory.specs.declared.shape.SpanType.TheVariants.{U16, U32, U64}
-use Rattle.inventory.proofs.Lanes.{lane_fits, some_width}
 
 pub shaped : (k : SpanType) (start : ℕ) → Shaped (shape_of k start)
 shaped U16 start = record { cell = refl; lanes = refl; few = omega arith; heads = omega arith; from = omega arith }
@@ -21,10 +20,3 @@ module _ {s : Shape} (h : Shaped s) where
 
   pub lanes_log : s.log2_lanes < 64
   lanes_log = omega (arith, lt_pow s.log2_lanes, h.lanes, h.few)
-
-  -- a lane of a cell: it has some bits, no more than 64, and begins within the cell
-  pub lane_within : (j : ℕ) → j < s.lanes → (0 < s.width) × (s.width ≤ 64) × (s.width * j < 64)
-  lane_within j l =
-      let w = some_width s.width s.lanes h.cell in
-      let f = lane_fits s.width s.lanes j h.cell l in
-      (w, omega arith, omega arith)

@@ -9,7 +9,8 @@ use spacing::Parameters;
 // The numbers of a summary.
 pub const SUMMARY_NUMBERS: usize = 9;
 
-// From a number, since images and C have numbers.
+// From a number, since images and C have numbers. Total, as its definition is: whether the number is a polarity's was tested
+// before, and `TryFrom` would test it again.
 pub fn polarity_at(code: u64) -> Polarity
     ensures { result ≡ polarity_at code }
 {
@@ -27,6 +28,7 @@ pub fn cut(n: u64) -> u32
     u32::try_from(n).unwrap_or(u32::MAX)
 }
 
+// This and `numbers_of` by these names and not by `From`: the contracts of the image and of C name them.
 pub fn summary_at(s: &[u64; SUMMARY_NUMBERS]) -> Summary
     ensures { result ≡ summary_at s.now }
 {

@@ -17,7 +17,7 @@ pub struct Summary {
     pub spill_len: u64,
 }
 
-// How many entries the index has.
+// How many entries the index has. This and the next three ask for their own bounds: a type of a lawful plan would ask for all.
 pub fn entry_count(plan: Parameters) -> u64
     requires { (N plan < 2 ^ 62) × (L plan ≤ 63) }
     ensures { result ≡ entries_of plan }
@@ -103,7 +103,7 @@ pub fn test_lent(lent: u64, count: u64, refusal: Refusal) -> Result<(), Refusal>
     Ok(())
 }
 
-// Both, where no jump waits for them: in one function they cost a jump 1.5 ns.
+// Both, for an image. `test_index` calls `test_lent` itself: through this function a jump takes 1.5 ns more.
 pub fn test_cells(summary: Summary, inventory: &[u64], spill: &[u64]) -> Result<(), Refusal>
     ensures { outcome result ≡ test_by (of_cells summary inventory.now spill.now) }
 {

@@ -1,6 +1,5 @@
 pub mod Numbers
 pub mod Ceil
-pub mod Shift
 pub mod Rank
 pub mod Seek
 pub mod Select

@@ -1,13 +1,16 @@
 -- Whether two lists are one, or one begins with the other, is told element by element; a bound on a list's numbers holds for its parts and for what they make.
 use mathlib.Core.Path.{◌≡◌, refl, sym, ap, ◌∙◌}
-use mathlib.Core.Bool.{Bool, true, false, ◌&&◌, and_assoc, and-eq-true_iff, false≢true}
+use mathlib.Core.Bool.{Bool, true, false, ◌&&◌, and_assoc, and-eq-true_iff}
 use mathlib.Core.List.{List, [], ◌∷◌, ◌++◌}
-use Prim.Native.Nat.{ℕ, zero, suc, ◌+◌, ◌≤◌, ◌<◌}
+use Prim.Native.Nat.{ℕ, zero, suc, ◌+◌, ◌*◌, ◌≤◌, ◌<◌}
+use native.Mathlib.Nat.{mul-zero, mul-suc, add_comm}
 use native.Mathlib.Omega.{arith}
 use lib.Dec.{eqb}
 use lib.ListN.{length, take, drop, get_or}
-use lib.Seq.{ext_get_or, get_or-take, get_or-drop, length-take-le}
+use lib.Seq.{ext_get_or, drop-drop, get_or-take, get_or-drop, length-take-le}
 use borrow.Author.Tests.{eq-eqb, eqb-true}
+use Rattle.std.proofs.lemmas.Bool.{false_from_ne_true}
+use Rattle.std.specs.Simd.{first_chunks}
 use Rattle.rank_sel.specs.Lists.{same_list, Below}
 
 -- ---- two lists
@@ -22,8 +25,8 @@ same_yes s t e = rw e (same_refl t)
 pub same_is : (s t : List ℕ) → same_list s t ≡ true → s ≡ t
 unfolding same_list
 same_is [] [] e = refl
-same_is [] (b ∷ t) e = absurd (false≢true e)
-same_is (a ∷ s) [] e = absurd (false≢true e)
+same_is [] (b ∷ t) e = cc
+same_is (a ∷ s) [] e = cc
 same_is (a ∷ s) (b ∷ t) e =
     let y = (and-eq-true_iff (eqb a b) (same_list s t)).0 e in
     let h = eqb-true a b y.0 in
@@ -31,11 +34,7 @@ same_is (a ∷ s) (b ∷ t) e =
     cc
 
 pub same_no : (s t : List ℕ) → (s ≡ t → ⊥) → same_list s t ≡ false
-same_no s t n = go (same_list s t) refl
-  where
-    go : (q : Bool) → same_list s t ≡ q → same_list s t ≡ false
-    go true e = absurd (n (same_is s t e))
-    go false e = e
+same_no s t n = false_from_ne_true (same_list s t) (λ e. n (same_is s t e))
 
 -- of two parts each
 pub same_append : (s t s' t' : List ℕ) → length s ≡ length t → same_list (s ++ s') (t ++ t') ≡ same_list s t && same_list s' t'
@@ -52,6 +51,12 @@ pub front_is : (n : ℕ) (l front : List ℕ) → n ≤ length l → length fron
 front_is n l front a b h =
     let c = length-take-le n l a in
     ext_get_or 0 (take n l) front (c ∙ sym b) (λ i k. let m : i < n = omega arith in get_or-take n l i 0 m ∙ h i m)
+
+-- the chunk of number i
+pub chunk : (m n : ℕ) (xs : List ℕ) (i : ℕ) → i < n → get_or (first_chunks m n xs) i [] ≡ take m (drop (m * i) xs)
+chunk m zero xs i h = absurd (omega arith)
+chunk m (suc n) xs zero h = rw mul-zero
+chunk m (suc n) xs (suc i) h = chunk m n (drop m xs) i (omega arith) ∙ rw (drop-drop, mul-suc, add_comm m (m * i))
 
 -- ---- bounds
 pub below_take : (m n : ℕ) (l : List ℕ) → Below m l → Below m (take n l)

@@ -1,6 +1,6 @@
--- Cases on the order of two numbers, the first number that passes a test, and sums.
+-- The first number that passes a test, and sums.
 use mathlib.Core.Path.{◌≡◌, refl, sym, ap, ◌∙◌}
-use mathlib.Core.Logic.{◌⊎◌, inl, inr, ⊎_elim}
+use mathlib.Core.Logic.{⊎_elim}
 use mathlib.Core.Bool.{Bool, true, false}
 use Prim.Native.Nat.{ℕ, zero, suc, ◌+◌, ◌-◌, ◌^◌, ◌≤◌, ◌<◌}
 use native.Mathlib.Nat.{pow-suc, le_antisymm}
@@ -9,15 +9,9 @@ use native.Mathlib.Decide.{le_ind}
 use native.Mathlib.Omega.{arith}
 use lib.Dec.{leb, ltb}
 use lib.Pow.{pow_pos, pow_mono}
-use borrow.Author.Tests.{ltb-true, ltb-false, leb-true, lt-ltb, le-leb}
+use borrow.Author.Tests.{ltb-true, leb-true, lt-ltb, le-leb}
+use Rattle.std.proofs.lemmas.Bool.{cases_lt}
 use Rattle.rank_sel.specs.Numbers.{or_next, first_from, ilog2, clog2, sum}
-
-pub lt_or_le : (a b : ℕ) → (a < b) ⊎ (b ≤ a)
-lt_or_le a b = go (ltb a b) refl
-  where
-    go : (t : Bool) → ltb a b ≡ t → (a < b) ⊎ (b ≤ a)
-    go true e = inl (ltb-true a b e)
-    go false e = inr (ltb-false a b e)
 
 -- r is the first number from c on that passes t
 pub record First (t : ℕ → Bool) (c r : ℕ) : Type 0 where
@@ -28,8 +22,7 @@ pub record First (t : ℕ → Bool) (c r : ℕ) : Type 0 where
 -- a number that passes is not one that fails
 past : (t : ℕ → Bool) (c m : ℕ) → t c ≡ false → t m ≡ true → c ≤ m → suc c ≤ m
 past t c m e h l =
-    ⊎_elim (λ a. a) (λ a. let s : m ≡ c = omega arith in let f = ap t s in let z : ◌≡◌ {A = ℕ} 0 1 = cc in omega arith)
-    (lt_or_le c m)
+    ⊎_elim (λ a. a) (λ a. let s : m ≡ c = omega arith in let f = ap t s in cc) (cases_lt c m)
 
 -- the search finds it, where some number within reach passes
 pub first_found : (t : ℕ → Bool) (n c m : ℕ) → c ≤ m → m ≤ c + n → t m ≡ true → First t c (first_from t n c)
@@ -65,12 +58,12 @@ ilog2_is n h = (low (ilog2 n) (ilog2_first n), ltb-true n (2 ^ (ilog2 n + 1)) (i
     low zero f = h
     low (suc r) f =
         ⊎_elim (λ a. absurd (omega (arith, f.least r (omega arith) (lt-ltb n (2 ^ (r + 1)) (rw add-one a))))) (λ a. a)
-        (lt_or_le n (2 ^ suc r))
+        (cases_lt n (2 ^ suc r))
 
 pub ilog2_least : (n r : ℕ) → 2 ^ r ≤ n → r ≤ ilog2 n
 ilog2_least n r a =
     let s = ilog2_is n (omega (arith, pow_pos r)) in
-    ⊎_elim (λ h. absurd (omega (arith, s, pow_mono {i = ilog2 n + 1} {j = r} (omega arith)))) (λ h. h) (lt_or_le (ilog2 n) r)
+    ⊎_elim (λ h. absurd (omega (arith, s, pow_mono {i = ilog2 n + 1} {j = r} (omega arith)))) (λ h. h) (cases_lt (ilog2 n) r)
 
 pub ilog2_unique : (n r : ℕ) → 2 ^ r ≤ n → n < 2 ^ (r + 1) → ilog2 n ≡ r
 ilog2_unique n r a b = le_antisymm (ilog2_most n r b) (ilog2_least n r a)
@@ -92,11 +85,7 @@ clog2-ilog2 n h =
     let s = ilog2_is (n - 1) (omega arith) in
     clog2_unique n (ilog2 (n - 1) + 1) (omega (arith, s))
     (λ c a. ⊎_elim (λ l. omega arith) (λ l. absurd (omega (arith, s, pow_mono {i = c} {j = ilog2 (n - 1)} l)))
-    (lt_or_le (ilog2 (n - 1)) c))
-
--- below a successor: below, or there
-pub lt_suc_cases : (P : ℕ → Type 0) (i n : ℕ) → i < suc n → (i < n → P i) → P n → P i
-lt_suc_cases P i n h low top = ⊎_elim low (λ (g : n ≤ i). let e : i ≡ n = omega arith in rw e top) (lt_or_le i n)
+    (cases_lt (ilog2 (n - 1)) c))
 
 pub sum-zero : (v : ℕ → ℕ) → sum v 0 ≡ 0
 unfolding sum

@@ -1,18 +1,13 @@
 -- Laws of outcomes.
-use mathlib.Core.Bool.{Bool, true, false, ◌||◌, false≢true}
+use mathlib.Core.Bool.{Bool, true, false, ◌||◌}
 use mathlib.Core.Logic.{◌↔◌}
 use mathlib.Core.List.{[], ◌∷◌, ◌++◌}
 use mathlib.Core.Option.{Option, none, some}
 use mathlib.Core.Path.{◌≡◌, refl, sym, ap, ◌∙◌}
 use Prim.Native.Nat.{ℕ}
-use native.Mathlib.Omega.{arith}
 use Rattle.rank_sel.specs.Outcome.{Outcome, answer, refused, number_of, refuse_if, or_refuse, Conditions, refuse_by, test_by, any_of, NoneOf, outcome, and_then}
 use Rattle.rank_sel.specs.declared.Refusal.{Refusal}
 use Rattle.std.specs.Prelude.{Result, Ok, Err, IsErr, IsErrAnd}
-
--- a refusal is no answer
-pub never : {A B : Type 0} {n : ℕ} {a : A} → refused n ≡ answer a → B
-never e = absurd (let z : ◌≡◌ {A = ℕ} 0 1 = cc in omega arith)
 
 pub answer_is : {A : Type 0} {a b : A} → answer a ≡ answer b → a ≡ b
 answer_is e = cc
@@ -21,22 +16,22 @@ answer_is e = cc
 pub then_answer : {A B : Type 0} (o : Outcome A) (go : A → Outcome B) (b : B) → and_then o go ≡ answer b
     → (a : A) × (o ≡ answer a) × (go a ≡ answer b)
 then_answer (answer a) go b e = (a, refl, e)
-then_answer (refused n) go b e = never e
+then_answer (refused n) go b e = cc
 
 -- a test that was passed
 pub not_refused : {A : Type 0} (t : Bool) (n : ℕ) (o : Outcome A) (a : A) → refuse_if t n o ≡ answer a → (t ≡ false) × (o ≡ answer a)
-not_refused true n o a e = never e
+not_refused true n o a e = cc
 not_refused false n o a e = (refl, e)
 
 -- a test that was not
 pub refused_holds : {A : Type 0} (t : Bool) (n : ℕ) (a : A) (m : ℕ) → refuse_if t n (answer a) ≡ refused m → t ≡ true
 refused_holds true n a m e = refl
-refused_holds false n a m e = never (sym e)
+refused_holds false n a m e = cc
 
 -- an answer was there
 pub is_some : {A : Type 0} (n : ℕ) (o : Option A) (a : A) → or_refuse n o ≡ answer a → o ≡ some a
 is_some n (some b) a e = ap some (answer_is e)
-is_some n none a e = never e
+is_some n none a e = cc
 
 -- one step after another
 pub then_then : {A B C : Type 0} (o : Outcome A) (f : A → Outcome B) (g : B → Outcome C)
@@ -59,7 +54,7 @@ refused_as {m = m} {n = n} e = let k : m ≡ n = cc in ap refused k
 
 -- what only alters an answer is refused exactly as that is
 pub then_refused : {A B : Type 0} (o : Outcome A) (f : A → B) (n : ℕ) → (and_then o (λ a. answer (f a)) ≡ refused n) ↔ (o ≡ refused n)
-then_refused (answer a) f n = (λ e. never (sym e), λ e. never (sym e))
+then_refused (answer a) f n = (λ e. cc, λ e. cc)
 then_refused (refused m) f n = (refused_as, refused_as)
 
 -- behind a test too
@@ -119,7 +114,7 @@ any_none [] e = tt
 any_none (c ∷ cs) e = go c.0 refl (any_none cs) e
   where
     go : (b : Bool) → c.0 ≡ b → (any_of cs ≡ false → NoneOf cs) → (b || any_of cs) ≡ false → (c.0 ≡ false) × NoneOf cs
-    go true h ih k = absurd (false≢true (sym k))
+    go true h ih k = cc
     go false h ih k = (h, ih k)
 
 pub none_any : (cs : Conditions) → NoneOf cs → any_of cs ≡ false

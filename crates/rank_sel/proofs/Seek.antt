@@ -9,18 +9,18 @@ use native.Mathlib.Omega.{arith}
 use Rattle.rank_sel.specs.Outcome.{answer, or_refuse}
 use Rattle.rank_sel.specs.Rank.{rank}
 use Rattle.rank_sel.specs.Seek.{on_here, seek, Sought, Exact}
-use Rattle.rank_sel.proofs.Numbers.{lt_or_le}
+use Rattle.std.proofs.lemmas.Bool.{cases_lt}
 use Rattle.rank_sel.proofs.Outcome.{is_some}
 use Rattle.rank_sel.proofs.Rank.{rank_one, rank_same, rank_lt}
 
 pub sought_unique : (f : ℕ → Bool) (p q : ℕ) → f p ≡ true → f q ≡ true → rank f p ≡ rank f q → p ≡ q
 sought_unique f p q ep eq e =
-    ⊎_elim (λ l. omega (arith, rank_lt f p q ep l)) (λ g. ⊎_elim (λ l. omega (arith, rank_lt f q p eq l)) (λ l. omega arith) (lt_or_le q p))
-    (lt_or_le p q)
+    ⊎_elim (λ l. omega (arith, rank_lt f p q ep l)) (λ g. ⊎_elim (λ l. omega (arith, rank_lt f q p eq l)) (λ l. omega arith) (cases_lt q p))
+    (cases_lt p q)
 
 pub seek_found : (f : ℕ → Bool) (n x k p : ℕ) → seek f n x k ≡ some p → Sought f n x k p
 unfolding seek
-seek_found f zero x k p e = let z : ◌≡◌ {A = ℕ} 0 1 = cc in absurd (omega arith)
+seek_found f zero x k p e = cc
 seek_found f (suc n) x k p e = go (λ r. seek_found f n (suc x) r p) (f x) refl k e
   where
     go : ((r : ℕ) → seek f n (suc x) r ≡ some p → Sought f n (suc x) r p) → (b : Bool) → f x ≡ b → (r : ℕ)
@@ -46,7 +46,7 @@ seek_none f (suc n) x k e = go (λ r. seek_none f n (suc x) r) (f x) refl k e
   where
     go : ((r : ℕ) → seek f n (suc x) r ≡ none → rank f (suc x + n) ≤ rank f (suc x) + r) → (b : Bool) → f x ≡ b → (r : ℕ)
         → on_here b r x (λ r. seek f n (suc x) r) ≡ none → rank f (x + suc n) ≤ rank f x + r
-    go ih true h zero q = let z : ◌≡◌ {A = ℕ} 0 1 = cc in absurd (omega arith)
+    go ih true h zero q = cc
     go ih true h (suc r) q =
         let s = ih r q in
         rw (add-suc, ← suc-add) (omega (arith, rank_one f x h))
@@ -94,7 +94,7 @@ module _ (f : ℕ → Bool) (n x k m y r : ℕ) (end : x + n ≡ y + m) (left : 
       go : (s : Option ℕ) → seek f m y r ≡ s → seek f n x k ≡ seek f m y r
       go (some p) q =
           let s = seek_found f m y r p q in
-          let l : x ≤ p = ⊎_elim (λ h. absurd (omega (arith, s.before, rank_lt f p x s.here h))) (λ h. h) (lt_or_le p x) in
+          let l : x ≤ p = ⊎_elim (λ h. absurd (omega (arith, s.before, rank_lt f p x s.here h))) (λ h. h) (cases_lt p x) in
           seek_at f n x k p (record { low = l; high = omega (arith, s.high); here = s.here; before = omega (arith, s.before) }) ∙ sym q
       go none q =
           let z : rank f (y + m) ≡ rank f (x + n) = ap (rank f) (sym end) in

@@ -8,7 +8,7 @@ use native.Mathlib.Nat.{sub-zero}
 use native.Mathlib.Omega.{arith}
 use Rattle.rank_sel.specs.Rank.{rank}
 use Rattle.rank_sel.specs.Seek.{seek, select, Sought}
-use Rattle.rank_sel.proofs.Numbers.{lt_or_le}
+use Rattle.std.proofs.lemmas.Bool.{cases_lt}
 use Rattle.rank_sel.proofs.Rank.{rank-zero, rank_mono}
 use Rattle.rank_sel.proofs.Seek.{seek_some, seek_at, seek_empty}
 
@@ -32,7 +32,7 @@ module _ (f : ℕ → Bool) (n : ℕ) where
       (λ (g : select f n r < select f n s). g)
       (λ (g : select f n s ≤ select f n r).
       absurd (omega (arith, rank_mono f (select f n s) (select f n r) g, select-rank r (omega arith), select-rank s l)))
-      (lt_or_le (select f n r) (select f n s))
+      (cases_lt (select f n r) (select f n s))
 
   pub select_le : (r k : ℕ) → r + k < rank f n → select f n r ≤ select f n (r + k)
   select_le r zero h = let e : r + 0 ≡ r = omega arith in rw e (omega arith)

@@ -143,8 +143,8 @@ over_place s m c o i e = go (ltb i s.from) (ltb i (near_by s m)) refl e
     go : (a b : Bool) → ltb i (near_by s m) ≡ b
         → is_over (cond a start (cond b (own (c + (i - s.from) / s.lanes) ((i - s.from) % s.lanes)) (over (o + (i - near_by s m) / s.lanes) ((i - near_by s m) % s.lanes)))) ≡ true
         → (k : ℕ) × (j : ℕ) × (cond a start (cond b (own (c + (i - s.from) / s.lanes) ((i - s.from) % s.lanes)) (over (o + (i - near_by s m) / s.lanes) ((i - near_by s m) % s.lanes))) ≡ over (o + k) j) × (near_by s m ≤ i)
-    go true b g f = let z : ◌≡◌ {A = ℕ} 0 1 = cc in absurd (omega arith)
-    go false true g f = let z : ◌≡◌ {A = ℕ} 0 1 = cc in absurd (omega arith)
+    go true b g f = cc
+    go false true g f = cc
     go false false g f = ((i - near_by s m) / s.lanes, (i - near_by s m) % s.lanes, refl, ltb-false i (near_by s m) g)
 
 module _ {t : Summary} {inv sp : List ℕ} {r : ℕ} {d : Decoded} (w : ReadAs t inv sp r d) where

@@ -6,7 +6,7 @@ use mathlib.Core.Path.{◌≡◌, refl, sym, ap, ◌∙◌}
 use Prim.Native.Nat.{ℕ, ◌+◌, ◌-◌, ◌*◌, ◌^◌, ◌≤◌, ◌<◌, min}
 use native.Mathlib.Nat.{div-add-mod'}
 use native.Mathlib.Omega.{arith}
-use lib.ListN.{length, get_or, take, drop}
+use lib.ListN.{length, get_or}
 use lib.Pow.{pow_pos}
 use Rattle.rank_sel.specs.Numbers.{ceil_div}
 use Rattle.std.specs.Prelude.{Result, Ok, Err, IsErr, IsErrAnd}
@@ -31,12 +31,12 @@ part_near : (t : Summary) (inv : List ℕ) (e : ℕ) (p : Place) → is_over p �
     → part_by t inv e p ≡ of_inventory (e * stride t.plan + 1) (2 ^ M t.plan)
 part_near t inv e start f = refl
 part_near t inv e (own c j) f = refl
-part_near t inv e (over c j) f = let z : ◌≡◌ {A = ℕ} 0 1 = cc in absurd (omega arith)
+part_near t inv e (over c j) f = cc
 
 part_far : (t : Summary) (inv : List ℕ) (e : ℕ) (p : Place) → is_over p ≡ true
     → part_by t inv e p ≡ of_spill (cell_at t inv e 1) (min (spilled_at t inv e) (t.spill_len - cell_at t inv e 1))
-part_far t inv e start f = let z : ◌≡◌ {A = ℕ} 0 1 = cc in absurd (omega arith)
-part_far t inv e (own c j) f = let z : ◌≡◌ {A = ℕ} 0 1 = cc in absurd (omega arith)
+part_far t inv e start f = cc
+part_far t inv e (own c j) f = cc
 part_far t inv e (over c j) f = refl
 
 -- store refuses as hint does
@@ -132,9 +132,3 @@ module _ {ws : List ℕ} {t : Summary} {inv sp : List ℕ} {r : ℕ} {d : Decode
         small_q = omega (arith, quantum_is, quantum_at_low t inv (entry_of_rank t r), a.lawful.spaced, a.lawful.small_l);
         begun = rw e (omega (arith, a.below, div-add-mod' r (2 ^ L t.plan)));
       }
-
--- a part from a to a + n
-pub part_cut : (l : List ℕ) (a n : ℕ) → take (a + n - a) (drop a l) ≡ take n (drop a l)
-part_cut l a n =
-    let f : a + n - a ≡ n = omega arith in
-    ap (λ (k : ℕ). take k (drop a l)) f

@@ -13,7 +13,7 @@ use lib.ListN.{get_or}
 use lib.Pow.{pow_pos}
 use borrow.Author.Tests.{lt-ltb, le-ltb, lt-leb, leb-false}
 use Rattle.rank_sel.specs.Outcome.{answer}
-use Rattle.rank_sel.proofs.Numbers.{lt_or_le}
+use Rattle.std.proofs.lemmas.Bool.{cases_lt}
 use Rattle.rank_sel.proofs.Outcome.{answer_is, not_refused}
 use Rattle.spacing.specs.Spacing.{L, M, S}
 use Rattle.spacing.specs.declared.Parameters.{Parameters}
@@ -82,7 +82,7 @@ module _ (pos : ℕ → ℕ) (p : Parameters) (g : Rising pos p) (spaced : S p �
         let c : get_or inv (entries_of p * stride p + 0) 0 ≡ start_of pos p (entries_of p) = ap (λ (n : ℕ). get_or inv n 0) (omega arith)
         ∙ w.closing in
         rw (d, c) (mod-eq_of_lt (start_small (entries_of p))))
-        (lt_or_le e (entries_of p))
+        (cases_lt e (entries_of p))
 
     module _ (e : ℕ) (h : e < entries_of p) where
       abbrev x : Entry
@@ -169,7 +169,7 @@ module _ (pos : ℕ → ℕ) (p : Parameters) (g : Rising pos p) (spaced : S p �
             shape_read,
           )
           (ap answer (over_number i k q)))))
-          (lt_or_le i near))
+          (cases_lt i near))
 
       -- ---- marks
       mark-zero : mark pos x 0 ≡ start_of pos p e
@@ -200,7 +200,7 @@ module _ (pos : ℕ → ℕ) (p : Parameters) (g : Rising pos p) (spaced : S p �
             number_read i k (marks_placed pos p e spaced i l),
             omega (arith, lane_in pos x i l, streams.low i l),
           ))
-          (lt_or_le i x.shape.from)
+          (cases_lt i x.shape.from)
 
       span_lawful : span_too_small (kind_of pos p e) (span_of pos p e) ≡ false
       unfolding kind_of

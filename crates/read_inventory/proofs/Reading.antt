@@ -30,8 +30,8 @@ use Rattle.read_inventory.specs.declared.decode.Spot.TheVariants.{Start, Own, Ov
 pub tagged_16 : (t : ℕ) → tagged t ≡ U16 → t < 2
 tagged_16 zero e = omega arith
 tagged_16 (suc zero) e = omega arith
-tagged_16 (suc (suc zero)) e = let z : ◌≡◌ {A = ℕ} 0 1 = cc in absurd (omega arith)
-tagged_16 (suc (suc (suc t))) e = let z : ◌≡◌ {A = ℕ} 0 1 = cc in absurd (omega arith)
+tagged_16 (suc (suc zero)) e = cc
+tagged_16 (suc (suc (suc t))) e = cc
 
 -- ---- lanes
 pub lane_masked : (w cell t : ℕ) → 0 < w → w ≤ 64 → bit_and (cell / 2 ^ (w * t)) ((2 ^ 64 - 1) / 2 ^ (64 - w)) ≡ lane_of w cell t

@@ -51,7 +51,8 @@ pub(crate) struct Decoded {
     pub(crate) spilled: bool,
 }
 
-// Where the mark of a rank stands, the selected bits to pass from it on, and whether it is itself the answer.
+// Where the mark of a rank stands, the selected bits to pass from it on, and whether it is itself the answer: there is a mark
+// either way.
 #[derive(Clone, Copy)]
 pub struct Mark {
     pub at: u64,

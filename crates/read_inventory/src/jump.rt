@@ -4,6 +4,7 @@ ghost use Rattle.rank_sel.specs.Numbers.{ceil_div};
 ghost use Rattle.rank_sel.specs.Outcome.{or_refuse, outcome};
 ghost use Rattle.rank_sel.specs.Seek.{seek};
 ghost use Rattle.bit_record.specs.Record.{Admitted, selected};
+ghost use Rattle.bit_record.specs.Selects.{selects};
 ghost use Rattle.inventory.specs.Index.{ranks_of};
 ghost use Rattle.inventory.specs.Shape.{spilled_by};
 ghost use Rattle.read_inventory.specs.Jump.{PartIn, PointsAt, address_of, cells_of, dwell_by, dwell_of, hint_of, or_empty, select_of, store_of, stored, subinventory_of};
@@ -12,27 +13,27 @@ ghost use Rattle.read_inventory.specs.Steps.{Countable};
 
 use crate::decode::{Decoded, Hint, Mark, decode, mark_of};
 use crate::tests::{test_call, test_dwell};
-use bit_record::{is_selected, sample_at, seek_from};
+use bit_record::{Record, is_selected, sample_at};
 use inventory::{Summary, entry_ranks, spilled_by};
 use rank_sel::{Refusal, ceil_shift, pow2};
 use spacing::Parameters;
 
 // Step 7. A selected mark with none to pass is found by its one bit, before any word is counted.
-fn seek_mark(words: &[u64], plan: Parameters, mark: u64, residual: u64) -> Result<u64, Refusal>
-    requires { Admitted words.now plan.len × (mark < plan.len) }
-    ensures { outcome result ≡ or_refuse 10 (seek (selected plan.polarity words.now plan.len) (plan.len - mark) mark residual) }
+fn seek_mark(bits: &Record<'_>, mark: u64, residual: u64) -> Result<u64, Refusal>
+    requires { mark < bits.now.len }
+    ensures { outcome result ≡ or_refuse 10 (seek (selects bits.now) (bits.now.len - mark) mark residual) }
 {
-    if residual == 0 && is_selected(words, plan.polarity, mark) {
+    if residual == 0 && is_selected(bits.words, bits.polarity, mark) {
         return Ok(mark);
     }
-    match seek_from(words, plan.len, plan.polarity, mark, residual) {
+    match bits.seek_from(mark, residual) {
         Some(found) => Ok(found.position),
         None => Err(Refusal::CellsUnlawful),
     }
 }
 
 // The position that a mark leads to. A function of the mark, not of the rank: with the summary and the cells left to
-// the caller, no call has to copy them.
+// the caller, no call has to copy them. The record is made where a seek needs it: an exact mark needs none.
 fn finish(words: &[u64], plan: Parameters, mark: Mark) -> Result<u64, Refusal>
     requires { Admitted words.now plan.len × (mark.at < plan.len) }
     ensures { outcome result ≡ finish_as (selected plan.polarity words.now plan.len) plan.len mark }
@@ -40,7 +41,7 @@ fn finish(words: &[u64], plan: Parameters, mark: Mark) -> Result<u64, Refusal>
     if mark.exact {
         return Ok(mark.at);
     }
-    seek_mark(words, plan, mark.at, mark.residual)
+    seek_mark(&plan.record(words), mark.at, mark.residual)
 }
 
 // Jump: the sample number of a rank's position.
@@ -118,7 +119,7 @@ pub fn subinventory_part(
     Ok(CellPart::Inventory(own, pow2(summary.plan.log2_words_per_subinventory)))
 }
 
-// The n cells from `first` on.
+// The n cells from `first` on, by number: the contract says where they stand.
 fn part_of<'a>(cells: &'a [u64], first: u64, n: u64) -> &'a [u64]
     requires { first + n ≤ length cells.now }
     ensures contents { result.now ≡ take n (drop first cells.now) }

@@ -8,7 +8,7 @@ use bit_record::test_record;
 use inventory::{Summary, test_lent, test_summary};
 use rank_sel::Refusal;
 
-// 1, 14, 2, 9, 6, 7: what every reader is held to.
+// 1, 14, 2, 9, 6, 7: what every reader is held to. Words, summary, inventory and spill stay apart in each: line at `mark_of`.
 pub fn test_index(
     words: &[u64],
     summary: Summary,
@@ -19,7 +19,7 @@ pub fn test_index(
 {
     test_record(words, summary.plan.len, summary.origin)?;
     test_summary(summary)?;
-    // Both by `test_lent`: inventory's `test_cells` costs a rising jump 0.8 ns.
+    // Not by inventory's `test_cells`: line there.
     test_lent(
         inventory.len() as u64,
         summary.inventory_len,
@@ -53,7 +53,7 @@ pub(crate) fn test_call(
     ensures { outcome result ≡ test_by (of_index words.now summary inventory.now spill.now ++ of_rank (N summary.plan) rank) }
 {
     test_index(words, summary, inventory, spill)?;
-    // The form that the paper names for this place.
+    // The form that document 01 names for this place.
     let Ok(()) = test_rank(summary.plan.num, rank) else {
         return Err(Refusal::RankTooLarge);
     };

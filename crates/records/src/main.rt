@@ -279,7 +279,7 @@ fn show_index(
     end_cells(rt, spill)
 }
 
-// Jump, hint and store at one rank.
+// Jump, hint and store at one rank, of an index in four parts, as the library takes it.
 fn show_rank(
     rt: &impl Print,
     words: &[u64],
@@ -664,26 +664,25 @@ fn summaries_of_a(rt: &impl Print) -> io::Result<()> {
     )
 }
 
-// The summary with one field changed, by its number in document 01's order.
-fn changed(summary: Summary, field: u32) -> Summary {
-    let mut plan = summary.plan;
-    let mut inventory_len = summary.inventory_len;
-    let mut spill_len = summary.spill_len;
-    match field {
-        1 => plan.len = plan.len.wrapping_add(1),
-        2 => plan.num = plan.num.wrapping_add(1),
-        3 => plan.log2_ones_per_inventory = 2,
-        4 => plan.log2_words_per_subinventory = 1,
-        5 => plan.log2_ones_per_sub16 = 1,
-        6 => inventory_len = inventory_len.wrapping_add(1),
-        _ => spill_len = spill_len.wrapping_add(1),
-    }
-    Summary {
-        plan,
-        origin: summary.origin,
-        inventory_len,
-        spill_len,
-    }
+fn changed<F: FnOnce(&mut Summary)>(summary: Summary, change: F) -> Summary
+    requires { F.IsAlwaysCallable change }
+{
+    let mut changed = summary;
+    change(&mut changed);
+    changed
+}
+
+// The summary with one number wrong, each in turn in document 01's order; polarity and origin have tests of their own.
+fn wrong_summaries(right: Summary) -> [Summary; 7] {
+    [
+        changed(right, |s| s.plan.len = s.plan.len.wrapping_add(1)),
+        changed(right, |s| s.plan.num = s.plan.num.wrapping_add(1)),
+        changed(right, |s| s.plan.log2_ones_per_inventory = 2),
+        changed(right, |s| s.plan.log2_words_per_subinventory = 1),
+        changed(right, |s| s.plan.log2_ones_per_sub16 = 1),
+        changed(right, |s| s.inventory_len = s.inventory_len.wrapping_add(1)),
+        changed(right, |s| s.spill_len = s.spill_len.wrapping_add(1)),
+    ]
 }
 
 // A's ones, power 1, 0, and C's, against a summary and cells handed in.
@@ -733,13 +732,10 @@ fn summary_checks_of_a(rt: &impl Print) -> io::Result<()> {
     let right = summary_of(Polarity::Ones, 10, 4, 1, 0, 5, 0);
     check_a(rt, right, &cells)?;
     check_a(rt, summary_of(Polarity::Zeros, 10, 4, 1, 0, 5, 0), &cells)?;
-    check_a(rt, changed(right, 1), &cells)?;
-    check_a(rt, changed(right, 2), &cells)?;
-    check_a(rt, changed(right, 3), &cells)?;
-    check_a(rt, changed(right, 4), &cells)?;
-    check_a(rt, changed(right, 5), &cells)?;
-    check_a(rt, changed(right, 6), &cells)?;
-    check_a(rt, changed(right, 7), &cells)
+    for wrong in wrong_summaries(right) {
+        check_a(rt, wrong, &cells)?;
+    }
+    Ok(())
 }
 
 fn cell_checks_of_a(rt: &impl Print) -> io::Result<()> {
@@ -773,13 +769,9 @@ fn check_c_cells(
 fn checks_of_c(rt: &impl Print) -> io::Result<()> {
     check_c_summary(rt, summary_c())?;
     check_c_summary(rt, summary_of(Polarity::Zeros, 65540, 2, 1, 0, 3, 1))?;
-    check_c_summary(rt, changed(summary_c(), 1))?;
-    check_c_summary(rt, changed(summary_c(), 2))?;
-    check_c_summary(rt, changed(summary_c(), 3))?;
-    check_c_summary(rt, changed(summary_c(), 4))?;
-    check_c_summary(rt, changed(summary_c(), 5))?;
-    check_c_summary(rt, changed(summary_c(), 6))?;
-    check_c_summary(rt, changed(summary_c(), 7))?;
+    for wrong in wrong_summaries(summary_c()) {
+        check_c_summary(rt, wrong)?;
+    }
     check_c_cells(rt, 0, 0, 65540, 0x0001_0003_0000_0000)?;
     check_c_cells(rt, 0x8000_0000_0000_0000, 1, 65540, 0x0001_0003_0000_0000)?;
     check_c_cells(rt, 0x8000_0000_0000_0000, 0, 65539, 0x0001_0003_0000_0000)?;

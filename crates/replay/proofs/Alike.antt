@@ -1,39 +1,44 @@
--- One step of a comparison from the start.
+-- The first place that differs is how many are alike.
+use mathlib.Core.Bool.{Bool, cond, not}
 use mathlib.Core.List.{List, [], ◌∷◌}
-use mathlib.Core.Path.{◌≡◌, refl}
-use Prim.Native.Nat.{ℕ, suc, min, ◌+◌, ◌≤◌, ◌<◌}
-use native.Mathlib.Numerals.{add-one}
+use mathlib.Core.Path.{◌≡◌, refl, ap, sym}
+use Prim.Native.Nat.{ℕ, ◌+◌, ◌≤◌}
 use native.Mathlib.Omega.{arith}
-use borrow.Author.Tests.{eq-eqb, ne_eqb}
-use lib.ListN.{length, get_or, drop_of_length-le}
-use lib.Seq.{drop-cons}
-use Rattle.replay.specs.Cells.{alike, alike_from}
+use borrow.Author.Tests.{tests}
+use lib.Dec.{ltb, eqb}
+use lib.ListN.{length, drop, length-drop}
+use Rattle.std.specs.Prelude.{Option, Some, None, unwrap_or}
+use Rattle.std.specs.List.{position_or_len, zip}
+use Rattle.std.proofs.lemmas.List.{drop-replicate}
+use Rattle.std.proofs.lemmas.List.Sums.{prefix_len-le-length}
+use Rattle.replay.specs.Cells.{alike, alike_from, blank, blanks}
 
-module _ (xs ys : List ℕ) (i : ℕ) where
-  pub alike_next : i < length xs → i < length ys → get_or xs i 0 ≡ get_or ys i 0 → alike_from (i + 1) xs ys ≡ alike_from i xs ys
-  unfolding alike
-  alike_next hx hy e = rw (add-one i, drop-cons xs i 0 hx, drop-cons ys i 0 hy, eq-eqb _ _ e) (omega arith)
+or_len : (p n : ℕ) → p ≤ n → unwrap_or (cond (ltb p n) (Some p) None) n ≡ p
+or_len p n h = grind (arith, tests)
 
-  pub alike_differ : i < length xs → i < length ys → (get_or xs i 0 ≡ get_or ys i 0 → ⊥) → alike_from i xs ys ≡ i
-  unfolding alike
-  alike_differ hx hy ne = rw (drop-cons xs i 0 hx, drop-cons ys i 0 hy, ne_eqb _ _ ne) (omega arith)
+-- what `position` gives, and the length where it finds none
+pub found_or_len : {X : Type 0} (p : X → Bool) (xs : List X) (n : ℕ) (r : Option ℕ) → length xs ≡ n → r ≡ cond (ltb (position_or_len p xs) (length xs)) (Some (position_or_len p xs)) None → unwrap_or r n ≡ position_or_len p xs
+found_or_len p xs n r e f = rw (sym e, f) (or_len _ _ (prefix_len-le-length (λ x. not (p x)) xs))
 
-  pub alike_first_ends : length xs ≤ i → alike_from i xs ys ≡ i
-  unfolding alike
-  alike_first_ends h = rw (drop_of_length-le xs h) (omega arith)
+abbrev pub differ : ℕ × ℕ → Bool
+differ p = not (eqb p.0 p.1)
 
--- the same at the front of what is left
-pub alike_step : (xs ys : List ℕ) (x y : ℕ) (xs' ys' : List ℕ) → xs ≡ x ∷ xs' → ys ≡ y ∷ ys' → x ≡ y → alike xs ys ≡ suc (alike xs' ys')
+abbrev pub written : ℕ → Bool
+written x = not (eqb x blank)
+
+zip_by_position : (xs ys : List ℕ) → position_or_len differ (zip xs ys) ≡ alike xs ys
 unfolding alike
-alike_step xs ys x y xs' ys' e f h = rw (e, f, eq-eqb x y h)
+zip_by_position [] ys = refl
+zip_by_position (x ∷ xs) [] = refl
+zip_by_position (x ∷ xs) (y ∷ ys) = grind (arith, tests, zip_by_position xs ys)
 
-pub alike_stop : (xs ys : List ℕ) (x y : ℕ) (xs' ys' : List ℕ) → xs ≡ x ∷ xs' → ys ≡ y ∷ ys' → (x ≡ y → ⊥) → alike xs ys ≡ 0
-unfolding alike
-alike_stop xs ys x y xs' ys' e f h = rw (e, f, ne_eqb x y h)
+pub alike_by_position : (xs ys : List ℕ) → position_or_len differ (zip xs ys) ≡ alike_from 0 xs ys
+alike_by_position xs ys = omega (arith, zip_by_position xs ys)
 
--- what is alike of lists of which one is empty
-pub alike_none : (xs ys : List ℕ) → min (length xs) (length ys) ≡ 0 → alike xs ys ≡ 0
+blank_by_position : (xs : List ℕ) → position_or_len written xs ≡ alike xs (blanks (length xs))
 unfolding alike
-alike_none [] ys h = refl
-alike_none (x ∷ xs) [] h = refl
-alike_none (x ∷ xs) (y ∷ ys) h = absurd (omega arith)
+blank_by_position [] = refl
+blank_by_position (x ∷ xs) = grind (arith, tests, blank_by_position xs)
+
+pub blank_from_by_position : (from : ℕ) (xs : List ℕ) → from + position_or_len written (drop from xs) ≡ alike_from from xs (blanks (length xs))
+blank_from_by_position from xs = rw (drop-replicate from (length xs) blank, sym (length-drop from xs)) (ap (λ n. from + n) (blank_by_position (drop from xs)))

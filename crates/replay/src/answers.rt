@@ -6,9 +6,10 @@ ghost use Rattle.replay.specs.Selects.{is_at, selects_alike};
 use crate::cells::{alike, blank_from, fill};
 use crate::list::{Case, Figures, Question};
 use crate::tally::Tally;
-use edge_index::{Parameters, Refusal, Summary, build, check, count, plan, select, size};
+use edge_index::{Parameters, Refusal, Sizes, Summary, build, check, count, plan, select, size};
 use std::io;
 
+// This and the next take an index in four parts, as `select` does.
 fn is_at(
     words: &[u64],
     summary: Summary,
@@ -36,12 +37,10 @@ fn selects_alike(
     ensures { result ≡ selects_alike (select_of words.now summary inventory.now spill.now) selects.now }
 {
     let (pairs, _) = selects.as_chunks::<2>();
-    for (i, [rank, sample]) in pairs.iter().enumerate() {
-        if !is_at(words, summary, inventory, spill, *rank, *sample) {
-            return i;
-        }
-    }
-    pairs.len()
+    pairs
+        .iter()
+        .position(|[rank, sample]| !is_at(words, summary, inventory, spill, *rank, *sample))
+        .unwrap_or(pairs.len())
 }
 
 // The build into cells that are blank before.
@@ -89,18 +88,13 @@ impl<P: Print> Tally<'_, P> {
         self.compare("S", s, figures.log2_ones_per_sub16)
     }
 
-    fn compare_counts(
-        &mut self,
-        inventory_len: u64,
-        spill_len: u64,
-        case: Case<'_>,
-    ) -> io::Result<()> {
+    fn compare_counts(&mut self, sizes: Sizes, case: Case<'_>) -> io::Result<()> {
         self.compare(
             "inventory count",
-            inventory_len,
+            sizes.inventory,
             case.inventory.len() as u64,
         )?;
-        self.compare("spill count", spill_len, case.spill.len() as u64)
+        self.compare("spill count", sizes.spill, case.spill.len() as u64)
     }
 
     fn replay_count(&mut self, case: Case<'_>) -> io::Result<()> {
@@ -137,7 +131,7 @@ impl<P: Print> Tally<'_, P> {
         match size(case.words, question.len, question.polarity, question.choice) {
             Ok(sizes) => {
                 self.compare_refusal("refusal of size", None, case.refusal)?;
-                self.compare_counts(sizes.inventory, sizes.spill, case)
+                self.compare_counts(sizes, case)
             }
             Err(refusal) => { self.compare_refusal("refusal of size", Some(refusal), case.refusal) }
         }
@@ -177,7 +171,11 @@ impl<P: Print> Tally<'_, P> {
     fn replay_summary(&mut self, case: Case<'_>, summary: Summary) -> io::Result<()> {
         self.compare_plan(summary.plan, case.figures)?;
         self.compare("origin", summary.origin, case.question.origin)?;
-        self.compare_counts(summary.inventory_len, summary.spill_len, case)?;
+        let sizes = Sizes {
+            inventory: summary.inventory_len,
+            spill: summary.spill_len,
+        };
+        self.compare_counts(sizes, case)?;
         self.replay_check(case, summary)?;
         self.replay_selects(case, summary)
     }

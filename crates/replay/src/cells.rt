@@ -15,22 +15,16 @@ pub(crate) fn fill(cells: &mut [u64])
 pub(crate) fn alike(a: &[u64], b: &[u64]) -> usize
     ensures { result ≡ alike_from 0 a.now b.now }
 {
-    for (i, (x, y)) in a.iter().zip(b).enumerate() {
-        if x != y {
-            return i;
-        }
-    }
-    a.len().min(b.len())
+    a.iter()
+        .zip(b)
+        .position(|(x, y)| x != y)
+        .unwrap_or(a.len().min(b.len()))
 }
 
 // Up to where the cells from `from` on are as they were filled.
 pub(crate) fn blank_from(cells: &[u64], from: usize) -> usize
     ensures { result ≡ alike_from from cells.now (blanks (length cells.now)) }
 {
-    for i in from..cells.len() {
-        if cells[i] != BLANK {
-            return i;
-        }
-    }
-    from.max(cells.len())
+    let blank = cells.iter().skip(from).position(|cell| *cell != BLANK);
+    from + blank.unwrap_or(cells.len().saturating_sub(from))
 }

@@ -4,8 +4,8 @@ ghost use Rattle.std.specs.Float.{binary64};
 ghost use Rattle.std.specs.Float.Ieee.{nan_bits, of_bits};
 
 use edge_index::{Choice, Polarity};
-use edge_index_c::{choice_at, is_known};
-use inventory::{cut, polarity_at};
+use edge_index_c::asked;
+use inventory::cut;
 
 const END: u64 = u64::MAX;
 
@@ -26,8 +26,8 @@ pub(crate) struct Figures {
     pub(crate) log2_ones_per_sub16: u64,
 }
 
-// Where the Rust turns a case down, the figures are 0, and the parts after the words empty. The selects are a rank and its
-// sample, by turns.
+// A refusal is the number that the list has. Where the Rust turns a case down, the figures are 0, and the parts after the words
+// empty. The selects are a rank and its sample, by turns.
 #[derive(Clone, Copy)]
 pub(crate) struct Case<'a> {
     pub(crate) question: Question,
@@ -124,15 +124,18 @@ pub(crate) fn read_case(list: &[u64]) -> Option<(Case<'_>, &[u64])>
     else {
         return None;
     };
-    let kind = cut(*kind);
-    if !is_known(cut(*polarity), kind) {
-        return None;
-    }
+    let (polarity, choice) = asked(
+        cut(*polarity),
+        cut(*kind),
+        *value,
+        percentage_of(*percentage),
+        cut(*log2),
+    )?;
     let question = Question {
         len: *len,
         origin: *origin,
-        polarity: polarity_at(*polarity),
-        choice: choice_at(kind, *value, percentage_of(*percentage), cut(*log2)),
+        polarity,
+        choice,
     };
     match *refusal {
         0 => read_answered(question, *words, rest),

@@ -1,5 +1,5 @@
 -- Laws of bits: what shifts, remainders, complements and counts do to them.
-use mathlib.Core.Path.{◌≡◌, refl, sym, ap, ◌∙◌}
+use mathlib.Core.Path.{◌≡◌, sym, ap, ◌∙◌}
 use mathlib.Core.Logic.{◌⊎◌, inl, inr, ⊎_elim}
 use mathlib.Core.Bool.{false, not}
 use Prim.Native.Nat.{ℕ, zero, suc, ◌+◌, ◌-◌, ◌/◌, ◌%◌, ◌^◌, ◌≤◌, ◌<◌}
@@ -9,17 +9,13 @@ use native.Mathlib.Omega.{arith}
 use lib.Dec.{eqb}
 use lib.Pow.{pow_mono, shr-shr, field, mod-mod-pow}
 use lib.Count.{ones, ones_step, ones-le}
+use Rattle.std.proofs.lemmas.Bool.{cases_lt}
 use Rattle.rank_sel.specs.Rank.{ind, rank}
 use Rattle.rank_sel.proofs.Rank.{rank-zero, rank-suc, rank_add, rank_ext}
 use Rattle.select_in_word.specs.Bit.{odd, bit}
 
 pub two_cases : (n : ℕ) → (n % 2 ≡ 0) ⊎ (n % 2 ≡ 1)
-two_cases n = go (n % 2) (omega arith)
-  where
-    go : (x : ℕ) → x < 2 → (x ≡ 0) ⊎ (x ≡ 1)
-    go zero h = inl refl
-    go (suc zero) h = inr refl
-    go (suc (suc x)) h = absurd (omega arith)
+two_cases n = ⊎_elim (λ (h : n % 2 < 1). inl (omega arith)) (λ (h : 1 ≤ n % 2). inr (omega arith)) (cases_lt (n % 2) 1)
 
 pub ind-odd : (n : ℕ) → ind (odd n) ≡ n % 2
 ind-odd n = ⊎_elim (λ (e : n % 2 ≡ 0). simp e) (λ (e : n % 2 ≡ 1). simp e) (two_cases n)

@@ -8,7 +8,7 @@ use native.Mathlib.Omega.{arith}
 use lib.Count.{count_trailing_zeros}
 use Rattle.rank_sel.specs.Rank.{rank}
 use Rattle.rank_sel.specs.Seek.{Sought}
-use Rattle.rank_sel.proofs.Numbers.{lt_or_le}
+use Rattle.std.proofs.lemmas.Bool.{cases_lt}
 use Rattle.rank_sel.proofs.Rank.{rank-zero, rank_one, rank_same, rank_add, rank_ext}
 use Rattle.select_in_word.specs.Bit.{bit}
 use Rattle.select_in_word.proofs.Bit.{two_cases, bit-zero, bit_shr, bit-suc, bit_past}
@@ -56,8 +56,8 @@ second_sought w v t u h e s r =
       low = omega arith;
       high =
           ⊎_elim (λ (g : t + 1 + u < 64). omega arith)
-          (λ (g : 64 ≤ t + 1 + u). let n = bit_past w 64 (t + 1 + u) h g in let z : ◌≡◌ {A = ℕ} 0 1 = cc in absurd (omega arith))
-          (lt_or_le (t + 1 + u) 64);
+          (λ (g : 64 ≤ t + 1 + u). let n = bit_past w 64 (t + 1 + u) h g in cc)
+          (cases_lt (t + 1 + u) 64);
       here = here;
       before = omega (arith, a, b, f, s.before, r.before, rank-zero (bit w), rank-zero (bit v));
     }

@@ -50,7 +50,7 @@ unfolding select_in_word
 word_missing w k n e = go (seek (bit w) 64 0 k) refl
   where
     go : (r : Option ℕ) → seek (bit w) 64 0 k ≡ r → rank (bit w) 64 ≤ k
-    go (some q) h = let z : ◌≡◌ {A = ℕ} 0 1 = cc in absurd (omega arith)
+    go (some q) h = cc
     go none h = omega (arith, seek_none (bit w) 64 0 k h, rank-zero (bit w))
 
 -- the same with the count of ones in place of a refusal
@@ -69,12 +69,12 @@ word_seek_found w k p e = go (seek (bit w) 64 0 k) refl
   where
     go : (r : Option ℕ) → seek (bit w) 64 0 k ≡ r → Sought (bit w) 64 0 k p
     go (some q) h = let f : q ≡ p = cc in seek_found (bit w) 64 0 k p (h ∙ ap some f)
-    go none h = let z : ◌≡◌ {A = ℕ} 0 1 = cc in absurd (omega arith)
+    go none h = cc
 
 pub word_seek_missing : (w k n : ℕ) → w < 2 ^ 64 → inr n ≡ seek_in_word w k → (n ≡ ones w) × (ones w ≤ k)
 unfolding seek_in_word
 word_seek_missing w k n l e = go (seek (bit w) 64 0 k) refl
   where
     go : (r : Option ℕ) → seek (bit w) 64 0 k ≡ r → (n ≡ ones w) × (ones w ≤ k)
-    go (some q) h = let z : ◌≡◌ {A = ℕ} 0 1 = cc in absurd (omega arith)
+    go (some q) h = cc
     go none h = let f : n ≡ ones w = cc in (f, omega (arith, ones_rank 64 w l, seek_none (bit w) 64 0 k h, rank-zero (bit w)))

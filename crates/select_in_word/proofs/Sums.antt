@@ -5,7 +5,8 @@ use Prim.Native.Nat.{ℕ, zero, suc, ◌+◌, ◌-◌, ◌*◌, ◌%◌, ◌^◌
 use native.Mathlib.Nat.{mod-lt, mod-eq_of_lt}
 use native.Mathlib.Omega.{arith}
 use Rattle.rank_sel.specs.Numbers.{sum}
-use Rattle.rank_sel.proofs.Numbers.{lt_or_le, sum-zero, sum-suc, sum_mono}
+use Rattle.rank_sel.proofs.Numbers.{sum-zero, sum-suc, sum_mono}
+use Rattle.std.proofs.lemmas.Bool.{cases_lt}
 use Rattle.select_in_word.specs.Bytes.{byte_of, Bytes}
 use Rattle.select_in_word.proofs.Bytes.{byte_add, add_fits, byte_shl, byte_shl_none}
 
@@ -33,7 +34,7 @@ module _ (g : ℕ → ℕ) (u w : ℕ) (most : sum g 8 < 256) (fits : w < 2 ^ 64
       let p : sum g (suc (j - u)) ≡ sum g (suc j - u) = ap (sum g) (omega arith) in
       let q : sum g (suc (j - u) - u) ≡ sum g (suc j - (u + u)) = ap (sum g) (omega arith) in
       omega (arith, h j l, byte_shl w u j l a, h (j - u) (omega arith), sum_mono g (suc j - (u + u)) (suc j - u) (omega arith), sum_mono g (suc j - u) (suc j) (omega arith)))
-      (lt_or_le j u)
+      (cases_lt j u)
 
   small : (j : ℕ) → j < 8 → byte_of w j + byte_of ((w * 2 ^ (8 * u)) % 2 ^ 64) j < 256
   unfolding last

@@ -10,7 +10,7 @@ use borrow.Author.Tests.{ltb-false}
 use Rattle.std.specs.Prelude.{Result, Ok, Err, IsErr, IsErrAnd}
 use Rattle.rank_sel.specs.Outcome.{Outcome, answer, refused, number_of, test_by, NoneOf, and_then, outcome}
 use Rattle.rank_sel.specs.declared.Refusal.{Refusal}
-use Rattle.rank_sel.proofs.Outcome.{never, answer_is, then_answer, tests_then, none_split, passed_none, passed_then}
+use Rattle.rank_sel.proofs.Outcome.{answer_is, then_answer, tests_then, none_split, passed_none, passed_then}
 use Rattle.bit_record.specs.Record.{sample_at, AdmittedFrom}
 use Rattle.spacing.specs.Spacing.{N}
 use Rattle.inventory.specs.declared.summary.Summary.{Summary}
@@ -24,7 +24,7 @@ use Rattle.select_list.proofs.Written.{written_front, written_back}
 
 -- a walk that tells a refusal is refused
 total_none : (o : Outcome Walk) (n : ℕ) → refused n ≡ and_then o (λ w. answer w.total) → o ≡ refused n
-total_none (answer w) n e = never e
+total_none (answer w) n e = cc
 total_none (refused k) n e =
     let d : n ≡ k = cc in
     ap refused (sym d)

@@ -1,5 +1,5 @@
 -- Lists of ranks: one that falls nowhere has its largest rank last, and each rank below N where that one is.
-use mathlib.Core.Bool.{Bool, true, false, not, ◌||◌}
+use mathlib.Core.Bool.{Bool, true, false, not, ◌||◌, or-false}
 use mathlib.Core.List.{List, [], ◌∷◌}
 use mathlib.Core.Path.{◌≡◌, refl, sym, ap, ◌∙◌}
 use Prim.Native.Nat.{ℕ, zero, suc, ◌+◌, ◌-◌, ◌≤◌, ◌<◌}
@@ -9,20 +9,16 @@ use native.Mathlib.Omega.{arith}
 use lib.Dec.{leb, ltb}
 use lib.ListN.{length, get_or}
 use borrow.Author.Tests.{le-ltb, lt-leb, le-leb, leb-true, ltb-false, leb-false}
+use Rattle.std.proofs.lemmas.Bool.{or_parts}
 use Rattle.std.specs.Bool.{MatchBool}
 use Rattle.std.specs.List.Sorted.{IsNonDecreasing}
-use Rattle.inventory.proofs.Lawful.{or_false}
 use Rattle.select_list.specs.List.{falls_from, NeverFalls, any_too_large}
-
-or_right : (b : Bool) → b || false ≡ b
-or_right true = refl
-or_right false = refl
 
 -- ---- ranks that fall nowhere
 pub falls-cons : (q r : ℕ) (rs : List ℕ) → falls_from q (r ∷ rs) ≡ false → (q ≤ r) × (falls_from r rs ≡ false)
 unfolding falls_from
 falls-cons q r rs e =
-    let f = or_false (ltb r q) (falls_from r rs) e in
+    let f = or_parts (ltb r q) (falls_from r rs) e in
     (ltb-false r q f.0, f.1)
 
 pub rise_next : (rs : List ℕ) (q i : ℕ) → falls_from q rs ≡ false → suc i < length rs → get_or rs i 0 ≤ get_or rs (suc i) 0
@@ -35,7 +31,7 @@ rise_next (r ∷ s ∷ rs) q (suc i) e h = rise_next (s ∷ rs) r i (falls-cons 
 pub large_cons : (num r : ℕ) (rs : List ℕ) → any_too_large num (r ∷ rs) ≡ false → (r < num) × (any_too_large num rs ≡ false)
 unfolding any_too_large
 large_cons num r rs e =
-    let f = or_false (leb num r) (any_too_large num rs) e in
+    let f = or_parts (leb num r) (any_too_large num rs) e in
     (leb-false num r f.0, f.1)
 
 pub below_all : (num : ℕ) (rs : List ℕ) (i : ℕ) → any_too_large num rs ≡ false → i < length rs → get_or rs i 0 < num
@@ -47,7 +43,7 @@ below_all num (r ∷ rs) (suc i) e h = below_all num rs i (large_cons num r rs e
 large_last : (num r : ℕ) (rs : List ℕ) → falls_from r rs ≡ false
     → (leb num (get_or (r ∷ rs) (length rs) 0) ≡ any_too_large num (r ∷ rs)) × (r ≤ get_or (r ∷ rs) (length rs) 0)
 unfolding any_too_large
-large_last num r [] e = (sym (or_right (leb num r)), omega arith)
+large_last num r [] e = (sym (or-false (leb num r)), omega arith)
 large_last num r (s ∷ rs) e =
     let f = falls-cons r s rs e in
     let i = large_last num s rs f.1 in

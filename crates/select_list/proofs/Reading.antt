@@ -1,5 +1,5 @@
 -- One rank: a reading that starts at the last bit or at the mark is the defined one, and it hands on its own last bit and word.
-use mathlib.Core.Bool.{Bool, true, false, not, cond}
+use mathlib.Core.Bool.{Bool, true, false, not}
 use mathlib.Core.List.{List}
 use mathlib.Core.Option.{Option}
 use mathlib.Core.Path.{◌≡◌, sym, ap, ◌∙◌}
@@ -8,6 +8,7 @@ use native.Mathlib.Omega.{arith}
 use Rattle.std.specs.Prelude as std
 use Rattle.std.specs.Prelude.{Result, Ok, Err, IsErr, IsErrAnd}
 use Rattle.std.specs.Int.{from_bool}
+use Rattle.std.proofs.lemmas.Bool.{cond-false}
 use Rattle.rank_sel.specs.Outcome.{Outcome, refused, number_of, and_then}
 use Rattle.rank_sel.specs.Rank.{ind}
 use Rattle.rank_sel.specs.Seek.{Sought}
@@ -15,7 +16,9 @@ use Rattle.rank_sel.specs.declared.Refusal.{Refusal}
 use Rattle.rank_sel.specs.declared.Refusal.TheVariants.{CellsUnlawful}
 use Rattle.rank_sel.proofs.Seek.{seek_found}
 use Rattle.bit_record.specs.Record.{selected, Finds}
-use Rattle.bit_record.specs.declared.Found.{Found}
+use Rattle.bit_record.specs.Selects.{selects, RecordOf}
+use Rattle.bit_record.specs.declared.record.Record.{Record}
+use Rattle.bit_record.specs.declared.seeks.Found.{Found}
 use Rattle.inventory.specs.declared.summary.Summary.{Summary}
 use Rattle.read_inventory.specs.Read.{Mark, mark_of_rank}
 use Rattle.read_inventory.proofs.Answers.{MarkRead}
@@ -66,9 +69,6 @@ module _ (f : ℕ → Bool) (len r : ℕ) (s : StartAt) where
     }
 
 -- ---- one rank
-cond_else : {A : Type 0} (b : Bool) (x y : A) → b ≡ false → y ≡ cond b x y
-cond_else b x y e = rw e
-
 module _ (ws : List ℕ) (t : Summary) (inv sp : List ℕ) (r : ℕ) (h : std.Option Hand) where
   abbrev f : ℕ → Bool
   f = selected t.plan.polarity ws t.plan.len
@@ -93,13 +93,16 @@ module _ (ws : List ℕ) (t : Summary) (inv sp : List ℕ) (r : ℕ) (h : std.Op
     unfolding step_of step_from
     step_exact d i = record { told = rw (← w.told, d); hand = i }
 
-    pub step_read : m.exact ≡ false → (s : StartAt) → Starts f len (last_of h) r m s → (x : Result Advance Refusal)
-        → Reads f len r s x → Advances f len r (step_of ws t inv sp (last_of h) r) x
+    pub step_read : m.exact ≡ false → (rec : Record) → RecordOf ws t.plan.len t.plan.polarity rec
+        → (s : StartAt) → Starts (selects rec) rec.len (last_of h) r m s → (x : Result Advance Refusal)
+        → Reads (selects rec) rec.len r s x → Advances f len r (step_of ws t inv sp (last_of h) r) x
     unfolding step_of step_from
-    step_read d s i x a =
-        let y = a (last_of h) i.fresh in
+    step_read d rec e s b x a =
+        let i : Starts f len (last_of h) r m s = rw (← e.words, ← e.len, ← e.polarity) b in
+        let reads : Reads f len r s x = rw (← e.words, ← e.len, ← e.polarity) a in
+        let y = reads (last_of h) i.fresh in
         record {
-          told = y.told ∙ ap (read_from f len (last_of h) r) i.start ∙ cond_else m.exact _ _ d
+          told = y.told ∙ ap (read_from f len (last_of h) r) i.start ∙ sym (cond-false m.exact _ _ d)
               ∙ ap (λ (o : Outcome Mark). and_then o (step_from f len (last_of h) r)) w.told;
           hand = y.hand;
         }

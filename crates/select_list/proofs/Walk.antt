@@ -17,7 +17,7 @@ use Rattle.std.specs.Prelude.{Result, Ok, Err, IsErr, IsErrAnd}
 use Rattle.rank_sel.specs.Outcome.{Outcome, answer, refused, number_of, or_refuse, and_then}
 use Rattle.rank_sel.specs.Seek.{seek}
 use Rattle.rank_sel.specs.declared.Refusal.{Refusal}
-use Rattle.rank_sel.proofs.Outcome.{never, answer_is, then_answer}
+use Rattle.rank_sel.proofs.Outcome.{answer_is, then_answer}
 use Rattle.rank_sel.proofs.Seek.{answer_sought}
 use Rattle.bit_record.specs.Record.{selected, sample_at}
 use Rattle.inventory.specs.declared.summary.Summary.{Summary}
@@ -160,7 +160,7 @@ module _ (ws : List ℕ) (t : Summary) (inv sp ranks : List ℕ) where
             → IsErr x × IsErrAnd x (λ z. z ≡ e) → Wrote t.origin whole l₀ l x
         stands_refused e a (Err z) k =
             let q : whole ≡ refused (number_of e) = walk_next (refused (number_of e)) a.told in
-            record { told = ap (λ (y : Refusal). refused (number_of y)) k.1 ∙ rw q; places = λ w d. never (sym q ∙ d) }
+            record { told = ap (λ (y : Refusal). refused (number_of y)) k.1 ∙ rw q; places = λ w d. cc }
         stands_refused e a (Ok z) k = absurd k.1
 
         module _ (y : Advance) (taken : Advances f t.plan.len (get_or ranks i 0) step (Ok y)) where

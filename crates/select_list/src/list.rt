@@ -24,7 +24,8 @@ fn put(places: &mut [u64], i: usize, sample: u64)
     }
 }
 
-// Walks a list, and writes the sample of each position as it is found, as far as there is room.
+// Walks a list, and writes the sample of each position as it is found, as far as there is room. The four of an index stay apart,
+// as `mark_of` has them.
 fn walk_into(
     words: &[u64],
     summary: Summary,

@@ -1,15 +1,15 @@
 // One rank of a list: its mark, and a reading that goes on from the later of the mark and the last bit reached.
 ghost use Rattle.std.specs.Prelude.{◌≡◌, ◌<◌};
 ghost use Rattle.bit_record.specs.Record.{Admitted, selected};
+ghost use Rattle.bit_record.specs.Selects.{selects};
 ghost use Rattle.read_inventory.specs.Tests.{Readable};
 ghost use Rattle.select_list.specs.Hand.{Advances, Begun, HandIn, Reads, Starts, last_of};
 ghost use Rattle.select_list.specs.Step.{step_of};
 
-use bit_record::{seek_on, selected_word};
+use bit_record::{Record, selected_word};
 use inventory::Summary;
 use rank_sel::Refusal;
 use read_inventory::{Mark, mark_of};
-use spacing::Parameters;
 
 // The last bit reached by reading: its place, the list's rank that reached it, and its word.
 #[derive(Clone, Copy)]
@@ -19,7 +19,8 @@ pub(crate) struct Hand {
     pub(crate) word: u64,
 }
 
-// Where a reading starts, how many selected bits it passes, the word there, and whether that had to be read.
+// Where a reading starts, how many selected bits it passes, the word there, and whether that had to be read: there is a word
+// either way.
 #[derive(Clone, Copy)]
 pub(crate) struct StartAt {
     pub(crate) from: u64,
@@ -37,9 +38,9 @@ pub(crate) struct Advance {
 }
 
 // The later of the mark and the last bit. The word in hand is not read again.
-fn start_of(words: &[u64], plan: Parameters, hand: Option<Hand>, rank: u64, mark: Mark) -> StartAt
-    requires { Admitted words.now plan.len × HandIn (selected plan.polarity words.now plan.len) plan.len rank hand × (mark.at < plan.len) }
-    ensures { Starts (selected plan.polarity words.now plan.len) plan.len (last_of hand) rank mark result }
+fn start_of(bits: &Record<'_>, hand: Option<Hand>, rank: u64, mark: Mark) -> StartAt
+    requires { HandIn (selects bits.now) bits.now.len rank hand × (mark.at < bits.now.len) }
+    ensures { Starts (selects bits.now) bits.now.len (last_of hand) rank mark result }
 {
     match hand {
         Some(last) if mark.at < last.at => StartAt {
@@ -57,25 +58,18 @@ fn start_of(words: &[u64], plan: Parameters, hand: Option<Hand>, rank: u64, mark
         _ => StartAt {
             from: mark.at,
             passes: mark.residual,
-            word: selected_word(words, (mark.at / 64) as usize, plan.len, plan.polarity),
+            word: selected_word(bits.words, (mark.at / 64) as usize, bits.len, bits.polarity),
             fresh: true,
         },
     }
 }
 
-fn read_from(words: &[u64], plan: Parameters, rank: u64, start: StartAt) -> Result<Advance, Refusal>
-    requires { Admitted words.now plan.len × Begun (selected plan.polarity words.now plan.len) plan.len start }
-    ensures { Reads (selected plan.polarity words.now plan.len) plan.len rank start result }
+fn read_from(bits: &Record<'_>, rank: u64, start: StartAt) -> Result<Advance, Refusal>
+    requires { Begun (selects bits.now) bits.now.len start }
+    ensures { Reads (selects bits.now) bits.now.len rank start result }
 {
     let from = start.from;
-    let Some(found) = seek_on(
-        words,
-        plan.len,
-        plan.polarity,
-        from,
-        start.word,
-        start.passes,
-    ) else {
+    let Some(found) = bits.seek_on(from, start.word, start.passes) else {
         return Err(Refusal::CellsUnlawful);
     };
     let at = found.position;
@@ -91,6 +85,7 @@ fn read_from(words: &[u64], plan: Parameters, rank: u64, start: StartAt) -> Resu
     })
 }
 
+// The record is made where a reading needs it: an exact mark needs none.
 pub(crate) fn step_to(
     words: &[u64],
     summary: Summary,
@@ -110,7 +105,7 @@ pub(crate) fn step_to(
             hand,
         });
     }
-    let plan = summary.plan;
-    let start = start_of(words, plan, hand, rank, mark);
-    read_from(words, plan, rank, start)
+    let record = summary.plan.record(words);
+    let start = start_of(&record, hand, rank, mark);
+    read_from(&record, rank, start)
 }

@@ -9,7 +9,7 @@ use Rattle.rank_sel.proofs.Outcome.{answer_is, then_answer, passed_all, passed_n
 use Rattle.bit_record.specs.Record.{num_selected, count_of, Admitted}
 use Rattle.bit_record.specs.declared.Polarity.{Polarity}
 use Rattle.bit_record.proofs.Counted.{counted}
-use Rattle.bit_record.proofs.Record.{num_le}
+use Rattle.bit_record.proofs.Selected.{num_le}
 use Rattle.spacing.specs.Spacing.{N, Rule, span, power, overhead, fixed, rule, span_log2, overhead_target, overhead_span, capped_log2_words, plan_with, capped, plan_for, ones_per_inventory_too_large, max_log2_words, words_per_subinventory_too_large, of_rule, chosen_plan, plan_of, PlanOf}
 use Rattle.spacing.specs.declared.Choice.{Choice}
 use Rattle.spacing.specs.declared.Parameters.{Parameters}

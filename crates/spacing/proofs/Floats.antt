@@ -1,6 +1,6 @@
 -- Tests of a float, and its cut to a u64, by the fields of its bits: the sign, the exponent e, the digits t.
 use Rattle.std.proofs.Common.{◌≡◌, ℕ, zero, suc, ◌+◌, ◌-◌, ◌*◌, ◌/◌, ◌%◌, ◌^◌, ◌<◌, ◌≤◌, min, Bool, true, false, cond, not, T, eqb, leb, pos, sym, refl, ◌∙◌, subst, le_trans, lt_of_lt_of_le, le-add_right, mod-lt, mod-eq_of_lt, mul_assoc, mul-le-mul, mul-pos, le-div_iff_mul-le, sub-le, arith, pow_pos, pow_mono, pow-add, shl_exact, ltb-false, ltb-true, lt-ltb, ne_eqb, le-leb}
-use native.Mathlib.Nat.{div-eq_of_lt, min-eq_left, min-eq_right}
+use native.Mathlib.Nat.{zero-lt-suc, div-eq_of_lt, min-eq_left, min-eq_right}
 use lib.Pow.{shr_le}
 use lib.Ieee.{Float, nan, inf, fin, binary64, lt, ne, fits, is_nan, odd, of_fields, of_bits, to_bits, to_unsigned, up, down}
 use lib.Ieee.Bits.{of_bits-to_bits}
@@ -10,16 +10,10 @@ use lib.Ieee.Nearest.{div_same}
 use lib.Ieee.Positive.{positive}
 use borrow.Author.Tests.{lt-leb}
 
-never : {A : Type 0} → false ≡ true → A
-never e = absurd (let z : ◌≡◌ {A = ℕ} 0 1 = cc in omega arith)
-
-suc-pos : (m : ℕ) → 0 < suc m
-suc-pos m = omega arith
-
 -- what does not differ from itself is no NaN
 pub is_number : (x : Float) → ne x x ≡ false → T (not (is_nan x))
 unfolding ne is_nan
-is_number nan h = never (sym h)
+is_number nan h = cc
 is_number (inf s) h = tt
 is_number (fin s m e) h = tt
 
@@ -111,10 +105,10 @@ cut_top (suc j) t h =
 -- above 0: then finite is below the infinity
 pub above_zero : (x : Float) → lt (fin false 0 (pos 0)) x ≡ true → lt x (inf false) ≡ positive x
 unfolding lt
-above_zero nan a = never a
-above_zero (inf true) a = never a
+above_zero nan a = cc
+above_zero (inf true) a = cc
 above_zero (inf false) a = refl
-above_zero (fin true m e) a = never a
+above_zero (fin true m e) a = cc
 above_zero (fin false zero e) a = absurd (let h = ltb-true (0 * 1 * down e) (0 * up e * 1) a in omega arith)
 above_zero (fin false (suc m) e) a = sym (lt-ltb 0 (suc m) (omega arith))
 
@@ -125,4 +119,4 @@ not_above_zero (inf s) a = refl
 not_above_zero (fin true m e) a = refl
 not_above_zero (fin false zero e) a = refl
 not_above_zero (fin false (suc m) e) a =
-    absurd (let h = ltb-false (0 * 1 * down e) (suc m * up e * 1) a in omega (arith, mul-pos (suc-pos m) (up_pos e)))
+    absurd (let h = ltb-false (0 * 1 * down e) (suc m * up e * 1) a in omega (arith, mul-pos (zero-lt-suc m) (up_pos e)))

@@ -3,6 +3,8 @@
 
 ghost use Rattle.std.specs.Prelude.{[], ◌∷◌, ◌≡◌, ◌≤◌, nat_lt};
 ghost use Rattle.rank_sel.specs.Outcome.{outcome, test_by};
+ghost use Rattle.bit_record.specs.Record.{Admitted};
+ghost use Rattle.bit_record.specs.Selects.{RecordOf};
 ghost use Rattle.spacing.specs.Spacing.{capped, chosen_plan, max_log2_words as most_log2_words, plan_of, plan_with, rule};
 ghost use Rattle.spacing.specs.Spacing.{fixed, overhead as overhead_rule, power, span};
 
@@ -10,7 +12,7 @@ mod numbers;
 mod overhead;
 mod wide;
 
-use bit_record::{Polarity, count};
+use bit_record::{Polarity, Record, count};
 use numbers::ceil_log2;
 use overhead::{is_positive, target_span_from_overhead};
 use rank_sel::Refusal;
@@ -39,6 +41,21 @@ pub struct Parameters {
     pub log2_ones_per_sub16: u32,
 }
 
+impl Parameters {
+    // The record that these are of, in words that hold it.
+    pub fn record<'a>(&self, words: &'a [u64]) -> Record<'a>
+        requires { Admitted words.now self.now.len }
+        ensures { RecordOf words.now self.now.len self.now.polarity result }
+    {
+        let Parameters { polarity, len, .. } = *self;
+        Record {
+            words,
+            len,
+            polarity,
+        }
+    }
+}
+
 // Refusal 3.
 fn test_ones(log2_ones: u32) -> Result<(), Refusal>
     ensures { outcome result ≡ test_by ((nat_lt 63 log2_ones, 3) ∷ []) }
@@ -49,7 +66,7 @@ fn test_ones(log2_ones: u32) -> Result<(), Refusal>
     Ok(())
 }
 
-// Refusal 4: of M, or of the maximum of M.
+// Refusal 4: of M, or of the maximum of M. Not one with the test before: each call would name the limit and the refusal.
 fn test_words(log2_words: u32) -> Result<(), Refusal>
     ensures { outcome result ≡ test_by ((nat_lt most_log2_words log2_words, 4) ∷ []) }
 {

@@ -11,7 +11,7 @@ use Rattle.rank_sel.proofs.Rank.{rank-zero}
 use Rattle.select_in_word.proofs.Holds.{holds_ones}
 use Rattle.bit_record.specs.Record.{selected, num_selected, of_record, count_of, Admitted, CountsWords}
 use Rattle.bit_record.proofs.Counted.{admitted, from_zero}
-use Rattle.bit_record.proofs.Record.{rank_num, words_most, words_part}
+use Rattle.bit_record.proofs.Selected.{rank_num, words_most, words_part}
 use Rattle.bit_record.proofs.count.Goals.{After-count_words-total, In_ok-test_record}
 use Rattle.bit_record.proofs.count.Goals as goal
 

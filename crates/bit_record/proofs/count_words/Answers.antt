@@ -1,5 +1,5 @@
 use native.Mathlib.Omega.{arith}
-use Rattle.bit_record.proofs.Record.{words_more, words_most}
+use Rattle.bit_record.proofs.Selected.{words_more, words_most}
 use Rattle.bit_record.proofs.count_words.Goals as goal
 
 pub overflow_add-total : goal.overflow_add-total

@@ -3,7 +3,7 @@ use mathlib.Core.Logic.{⊎_elim}
 use Prim.Native.Nat.{◌+◌, ◌-◌, ◌≤◌, ◌<◌}
 use native.Mathlib.Omega.{arith}
 use borrow.Author.Tests.{le-ltb, lt-ltb}
-use Rattle.rank_sel.proofs.Numbers.{lt_or_le}
+use Rattle.std.proofs.lemmas.Bool.{cases_lt}
 use Rattle.bit_record.proofs.is_origin_too_large.Goals as goal
 
 pub returns : goal.returns
@@ -12,4 +12,4 @@ returns c =
     let n = a.origin + a.len in ⊎_elim
     (λ (h : 4611686018427387903 < n). simp (lt-ltb _ n h, lt-ltb (4611686018427387903 - a.len) a.origin (omega arith)))
     (λ (h : n ≤ 4611686018427387903). simp (le-ltb _ n h, le-ltb (4611686018427387903 - a.len) a.origin (omega (arith, c.requires))))
-    (lt_or_le 4611686018427387903 n)
+    (cases_lt 4611686018427387903 n)

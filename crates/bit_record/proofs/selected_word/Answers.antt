@@ -1,6 +1,6 @@
 -- What the three calls return is the word masked as in `holds_word`, which says that it holds the selected positions.
 use native.Mathlib.Omega.{arith}
-use Rattle.bit_record.proofs.Record.{holds_word}
+use Rattle.bit_record.proofs.Selected.{holds_word}
 use Rattle.bit_record.proofs.selected_word.Goals as goal
 
 pub returns : goal.returns

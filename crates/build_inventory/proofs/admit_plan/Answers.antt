@@ -12,10 +12,10 @@ unfolding build_from
 returns-in_err-sizes c =
     handed_on _ _ c.from_residual.ensures _ c.in_err-sizes.ensures _
 
-pub returns-then-spill_cells-sizes : goal.returns-then-spill_cells-sizes
+pub returns-then-lent-sizes : goal.returns-then-lent-sizes
 unfolding build_from
-returns-then-spill_cells-sizes c =
-    rw (← c.in_ok-sizes.ensures, lt-ltb _ _ c.if-spill_cells-sizes.true)
+returns-then-lent-sizes c =
+    rw (← c.in_ok-sizes.ensures, lt-ltb _ _ c.if-lent-sizes.true)
 
 pub returns : goal.returns
 unfolding build_from
@@ -23,4 +23,4 @@ returns c =
     let a = c.args in
     let e = c.in_ok-sizes.ensures in
     let s = fitting (sym e) in
-    rw (← e, le-ltb _ _ c.if-spill_cells-sizes.false) (ap answer (summary_made a.planned.now.words.now a.origin a.planned.now.plan _ _ s.inventory s.spill))
+    rw (← e, le-ltb _ _ c.if-lent-sizes.false) (ap answer (summary_made a.planned.now.words.now a.origin a.planned.now.plan _ _ s.inventory s.spill))

@@ -1,5 +1,5 @@
 -- An unknown code, of the call or the summary, is turned down; else the entry's verdict for what they say goes out by `give`.
-use mathlib.Core.Path.{refl, ap, ◌∙◌}
+use mathlib.Core.Path.{refl, ap, ap₂, ◌∙◌}
 use Rattle.bit_record.specs.declared.Polarity.{Polarity}
 use Rattle.spacing.specs.declared.Choice.{Choice}
 use Rattle.inventory.specs.Numbers.{polarity_at}
@@ -7,7 +7,7 @@ use Rattle.inventory.specs.declared.summary.Summary.{Summary}
 use Rattle.build_inventory.specs.Build.{check_of}
 use Rattle.edge_index_c.specs.Calls.{check_c, verdict_of}
 use Rattle.edge_index_c.specs.Codes.{choice_at}
-use Rattle.edge_index_c.proofs.Returns.{ap2, returned_as}
+use Rattle.edge_index_c.proofs.Returns.{returned_as}
 use Rattle.edge_index_c.proofs.edge_index_check.Goals as goal
 
 pub returns-in_default : goal.returns-in_default
@@ -26,7 +26,7 @@ unfolding check_c
 returns c =
     let a = c.args in
     let told = c.check-told.ensures
-    ∙ ap2
+    ∙ ap₂
     (λ (p : Polarity) (k : Choice). check_of a.words.now a.len a.origin p k c.in-Some-read.summary a.inventory.now
     a.spill.now)
     c.in-Some.ensures.1 c.in-Some.ensures.2

@@ -1,12 +1,12 @@
 -- An unknown code is turned down; else the entry's plan goes out as a summary's nine numbers, or its refusal as its own.
-use mathlib.Core.Path.{refl, ap, ◌∙◌}
+use mathlib.Core.Path.{refl, ap, ap₂, ◌∙◌}
 use Rattle.rank_sel.specs.Outcome.{Outcome, answer, and_then}
 use Rattle.inventory.specs.Numbers.{numbers_of}
 use Rattle.spacing.specs.Spacing.{plan_of}
 use Rattle.spacing.specs.declared.Parameters.{Parameters}
 use Rattle.edge_index_c.specs.Calls.{plan_c}
 use Rattle.edge_index_c.specs.Codes.{uncounted}
-use Rattle.edge_index_c.proofs.Returns.{ap2, mapped, returned_as}
+use Rattle.edge_index_c.proofs.Returns.{mapped, returned_as}
 use Rattle.edge_index_c.proofs.edge_index_plan.Goals as goal
 
 pub returns-in_default : goal.returns-in_default
@@ -22,5 +22,5 @@ returns c =
     (returned_as
     (mapped (λ p. numbers_of (uncounted p)) _ _ c.map.ensures.cases
     ∙ ap (λ (o : Outcome Parameters). and_then o (λ p. answer (numbers_of (uncounted p))))
-    (c.plan-told.ensures ∙ ap2 (plan_of a.words.now a.len) c.in-Some.ensures.1 c.in-Some.ensures.2))
+    (c.plan-told.ensures ∙ ap₂ (plan_of a.words.now a.len) c.in-Some.ensures.1 c.in-Some.ensures.2))
     c.give.ensures)

@@ -1,6 +1,6 @@
 -- The bytes with their top bits set are no less than what is taken off; `above_first` reads the number from the trailing zeros.
 use native.Mathlib.Omega.{arith}
-use Rattle.select_in_word.proofs.FirstAbove.{trailing_fits, topped_ge, above_first}
+use Rattle.select_in_word.proofs.FirstAbove.{topped_ge, above_first}
 use Rattle.select_in_word.proofs.first_above.Goals as goal
 
 pub overflow_sub-apart : goal.overflow_sub-apart
@@ -10,7 +10,3 @@ overflow_sub-apart c =
 pub returns : goal.returns
 returns c =
     above_first c.args.sums c.args.k c.requires.0 c.requires.1
-
-pub overflow_cast-result : goal.overflow_cast-result
-overflow_cast-result c =
-    record { fits = trailing_fits _ }

@@ -10,7 +10,7 @@ use Rattle.rank_sel.proofs.Rank.{rank_le}
 use Rattle.select_in_word.specs.Bit.{bit}
 use Rattle.select_in_word.specs.Bytes.{Bytes}
 use Rattle.select_in_word.proofs.Broadword.{InByte, rank_at, steps_sum, byte_steps, bit_steps, total, in_byte, sought_bit}
-use Rattle.select_in_word.proofs.Select.{holds_byte, word_seek_at, word_seek_past}
+use Rattle.select_in_word.proofs.Select.{word_seek_at, word_seek_past}
 use Rattle.select_in_word.proofs.seek_in_word.Goals.{After-first_above, After-first_above-at, After-running_sums-inner, After-running_sums-sums}
 use Rattle.select_in_word.proofs.seek_in_word.Goals as goal
 
@@ -66,10 +66,6 @@ overflow_shr-before c =
 pub overflow_shr-word : goal.overflow_shr-word
 overflow_shr-word c =
     omega (arith, the_byte c)
-
-pub spread-requires : goal.spread-requires
-spread-requires c =
-    (holds_byte c.args.word c.first_above-at.result).small
 
 pub running_sums-inner-requires : goal.running_sums-inner-requires
 running_sums-inner-requires c =

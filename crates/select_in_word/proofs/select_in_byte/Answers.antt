@@ -3,7 +3,6 @@ use native.Mathlib.Omega.{arith}
 use Rattle.rank_sel.specs.Seek.{seek}
 use Rattle.select_in_word.specs.Bit.{bit}
 use Rattle.select_in_word.specs.Select.{select_in_byte}
-use Rattle.select_in_word.proofs.Select.{byte_le}
 use Rattle.select_in_word.proofs.Table.{list, entry, table_at}
 use Rattle.select_in_word.proofs.select_in_byte.Goals as goal
 
@@ -11,7 +10,3 @@ pub returns : goal.returns
 unfolding list entry select_in_byte seek bit
 returns c =
     table_at c.args.byte c.args.rank (omega arith) (omega arith)
-
-pub overflow_cast-result : goal.overflow_cast-result
-overflow_cast-result c =
-    rw (returns c) (omega (arith, byte_le c.args.byte c.args.rank))

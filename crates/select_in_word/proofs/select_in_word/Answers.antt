@@ -2,7 +2,6 @@ use mathlib.Core.Path.{◌≡◌, ap}
 use Prim.Native.Nat.{◌+◌, ◌*◌, ◌/◌, ◌^◌}
 use native.Mathlib.Omega.{arith}
 use lib.Bits.{bit_and}
-use lib.Count.{ones-le}
 use Rattle.rank_sel.specs.Rank.{rank as ranks}
 use Rattle.rank_sel.proofs.Rank.{rank-zero}
 use Rattle.rank_sel.proofs.Seek.{sought_wider}
@@ -15,12 +14,6 @@ use Rattle.select_in_word.proofs.select_in_word.Goals as goal
 pub loop-i-init : goal.loop-i-init
 loop-i-init c =
     omega (arith, rank-zero (bit c.args.word))
-
-pub select_in_byte-requires : goal.select_in_byte-requires
-select_in_byte-requires c =
-    let w = c.args.word in
-    let h = holds_byte w (8 * c.loop-i.i) in
-    omega (arith, ones-le 8 (bit_and (w / 2 ^ (8 * c.loop-i.i)) 255) h.small, c.count_ones-ones.ensures.exact)
 
 pub overflow_add-result : goal.overflow_add-result
 overflow_add-result c =

@@ -1,17 +1,12 @@
 -- Computed for each of the 256 bytes (`same_table`); what the mask keeps is no larger than it, so that the addition fits.
 use mathlib.Core.Path.{refl}
 use Prim.Native.Nat.{◌+◌, ◌*◌, ◌/◌, ◌^◌}
-use native.Mathlib.Omega.{arith}
-use lib.Bits.{bit_and, and_le_r}
+use lib.Bits.{bit_and}
 use Rattle.rank_sel.specs.Rank.{ind}
 use Rattle.select_in_word.specs.Bit.{bit}
 use Rattle.select_in_word.specs.Bytes.{byte_of}
 use Rattle.select_in_word.proofs.Table.{list, same_table}
 use Rattle.select_in_word.proofs.spread.Goals as goal
-
-pub overflow_add-result : goal.overflow_add-result
-overflow_add-result c =
-    omega (arith, and_le_r (c.args.byte * 0x0101_0101_0101_0101) 0x8040_2010_0804_0201)
 
 pub returns : goal.returns
 unfolding list byte_of bit

@@ -1,7 +1,7 @@
 -- A plan starts with a count: its refusals are the count's, and its answer is the choice's for what was counted.
 use Rattle.std.proofs.Common.{sym, ◌∙◌, arith}
 use Rattle.rank_sel.proofs.Outcome.{handed_on}
-use Rattle.bit_record.proofs.Record.{num_le}
+use Rattle.bit_record.proofs.Selected.{num_le}
 use Rattle.bit_record.proofs.Counted.{counted}
 use Rattle.spacing.specs.Spacing.{plan_of}
 use Rattle.spacing.proofs.plan.Goals as goal

@@ -4,7 +4,7 @@ use Rattle.std.specs.Prelude.{Ok}
 use Rattle.find_edge_input.specs.Number.{decimal_of, after_whole, whole_first, joined}
 use Rattle.find_edge_input.proofs.Digits.{decimals as the_decimals, decimal_is, no_point, too_fine, with_decimals}
 use Rattle.find_edge_input.proofs.Steps.{handed_on}
-use Rattle.find_edge_input.proofs.number.parse_decimal.Goals.{After-parse_part, In_ok-whole}
+use Rattle.find_edge_input.proofs.number.parse_decimal.Goals.{In_ok-whole}
 use Rattle.find_edge_input.proofs.number.parse_decimal.Goals as goal
 
 -- the whole part was a number

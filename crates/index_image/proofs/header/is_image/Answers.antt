@@ -13,7 +13,7 @@ use Rattle.std.specs.Result.{is_ok}
 use Rattle.rank_sel.specs.Lists.{Below}
 use Rattle.rank_sel.specs.Outcome.{answer, outcome, test_by, NoneOf}
 use Rattle.rank_sel.specs.declared.Refusal.{Refusal}
-use Rattle.rank_sel.proofs.Outcome.{never, passed_none, passing}
+use Rattle.rank_sel.proofs.Outcome.{passed_none, passing}
 use Rattle.inventory.proofs.Lanes.{tab_at}
 use Rattle.index_image.specs.Bytes.{word_from, words_from}
 use Rattle.index_image.specs.Image.{offset_of, of_summary_alone, summary_in, image_unlawful}
@@ -26,7 +26,7 @@ summary_says : (bs : List ℕ) (h : Below 256 bs) → length bs < 2 ^ 64 → (r 
     → outcome r ≡ test_by (of_summary_alone (summary_in bs)) → (NoneOf (of_summary_alone (summary_in bs)) → Formed bs)
     → is_ok r ≡ not (image_unlawful bs)
 summary_says bs h k (Ok u) e f = is_yes bs h (f (passed_none (of_summary_alone (summary_in bs)) e))
-summary_says bs h k (Err x) e f = is_no bs h k (λ w. never (e ∙ passing (of_summary_alone (summary_in bs)) (answer tt) w.free))
+summary_says bs h k (Err x) e f = is_no bs h k (λ w. cc (passing (of_summary_alone (summary_in bs)) (answer (tt {0})) w.free))
 
 -- the header is read
 module _ (c : After-read_header) where

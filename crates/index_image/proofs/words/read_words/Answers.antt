@@ -1,10 +1,9 @@
 use mathlib.Core.Path.{◌≡◌, refl, ap, ◌∙◌}
-use mathlib.Core.List.{List, [], append-nil}
+use mathlib.Core.List.{List}
 use Prim.Native.Nat.{ℕ, ◌-◌, ◌/◌}
 use native.Mathlib.Omega.{arith}
 use lib.ListN.{length, length-drop, set, take, drop}
 use lib.Seq.{take_all}
-use Rattle.std.proofs.lemmas.List.{drop_all}
 use Rattle.inventory.specs.Lanes.{tabulate}
 use Rattle.index_image.specs.Bytes.{words_from}
 use Rattle.index_image.proofs.Bytes.{chunk_word, words_more}
@@ -26,10 +25,3 @@ loop-i-preserved c =
     let e = chunk_word a.bytes.now a.at (length (drop a.at a.bytes.now) / 8) l.i w c.as_chunks.result.0.now (omega arith) (rw all at c.as_chunks.ensures.front) c.from_le_bytes.ensures in
     ap (λ (z : List ℕ). set z l.i w) l.invariant
     ∙ words_more a.bytes.now a.at a.cells.now l.i w c.loop-i-test.true e
-
-pub returns : goal.returns
-returns c =
-    let a = c.args in
-    let e : c.loop-i.i ≡ length a.cells.now = omega arith in
-    let d : drop (length a.cells.now) a.cells.now ≡ [] = drop_all (length a.cells.now) a.cells.now (omega arith) in
-    rw (e, d, append-nil) at c.loop-i.invariant

@@ -1,8 +1,7 @@
-use mathlib.Core.Path.{◌≡◌, sym, ap, ◌∙◌}
+use mathlib.Core.Path.{sym, ap, ◌∙◌}
 use Prim.Native.Nat.{◌+◌, ◌-◌, ◌*◌}
 use native.Mathlib.Omega.{arith}
-use lib.ListN.{length, get_or}
-use lib.Seq.{take_all}
+use lib.ListN.{get_or}
 use Rattle.index_image.specs.Bytes.{word_bytes, bytes_of, put_at}
 use Rattle.index_image.proofs.Put.{put_none, put_eight, put_more}
 use Rattle.index_image.proofs.words.write_words.Goals as goal
@@ -21,9 +20,3 @@ loop-i-preserved c =
     put_eight l.bytes c.copy_from_slice.new.self at (at + 8 - at) w (omega arith) (c.copy_from_slice.ensures.after ∙ c.to_le_bytes.ensures)
     ∙ ap (put_at at (word_bytes w)) l.invariant
     ∙ put_more a.at a.cells.now a.bytes.now l.i (omega arith) (omega arith)
-
-pub returns : goal.returns
-returns c =
-    let a = c.args in
-    let e : c.loop-i.i ≡ length a.cells.now = omega arith in
-    rw (e, take_all (length a.cells.now) a.cells.now (omega arith)) at c.loop-i.invariant

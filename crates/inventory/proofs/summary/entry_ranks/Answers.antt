@@ -11,10 +11,6 @@ use Rattle.inventory.proofs.summary.entry_ranks.Goals as goal
 first : (c : After-pow2-ones) → let a = c.args in a.e * c.pow2-ones.result ≡ a.e * 2 ^ L a.plan
 first c = ap (λ (z : ℕ). c.args.e * z) c.pow2-ones.ensures
 
-pub overflow_sub-plan : goal.overflow_sub-plan
-overflow_sub-plan c =
-    omega (arith, first (goal.at.overflow_sub-plan c).After-pow2-ones, c.requires)
-
 pub returns : goal.returns
 unfolding ranks_of
 returns c =

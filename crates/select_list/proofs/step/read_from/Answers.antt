@@ -2,7 +2,7 @@
 use mathlib.Core.Bool.{Bool}
 use Prim.Native.Nat.{ℕ}
 use native.Mathlib.Omega.{arith}
-use Rattle.bit_record.specs.Record.{selected}
+use Rattle.bit_record.specs.Selects.{selects}
 use Rattle.select_list.proofs.Reading.{read_none, read_later, read_at}
 use Rattle.select_list.proofs.step.read_from.Goals.{After-seek_on}
 use Rattle.select_list.proofs.step.read_from.Goals as goal
@@ -11,21 +11,20 @@ use Rattle.select_list.proofs.step.read_from.Goals as goal
 module _ (c : After-seek_on) where
   abbrev f : ℕ → Bool
   f =
-      let a = c.args in
-      selected a.plan.polarity a.words.now a.plan.len
+      selects c.args.bits.now
 
 pub returns-in_default : goal.returns-in_default
 returns-in_default c =
     let a = c.args in
-    λ last d. read_none (f (goal.at.returns-in_default c).After-seek_on) a.plan.len a.rank a.start c.in_default.ensures last
+    λ last d. read_none (f (goal.at.returns-in_default c).After-seek_on) a.bits.now.len a.rank a.start c.in_default.ensures last
 
 pub overflow_sub-result : goal.overflow_sub-result
 overflow_sub-result c =
     let a = c.args in
-    let l = read_later (f (goal.at.overflow_sub-result c).After-seek_on) a.plan.len a.rank a.start _ c.in-Some.ensures in
+    let l = read_later (f (goal.at.overflow_sub-result c).After-seek_on) a.bits.now.len a.rank a.start _ c.in-Some.ensures in
     omega (arith, l)
 
 pub returns : goal.returns
 returns c =
     let a = c.args in
-    λ last d. rw c.from.ensures (read_at (f (goal.at.returns c).After-seek_on) a.plan.len a.rank a.start _ c.in-Some.ensures last d)
+    λ last d. rw c.from.ensures (read_at (f (goal.at.returns c).After-seek_on) a.bits.now.len a.rank a.start _ c.in-Some.ensures last d)

@@ -22,11 +22,11 @@ returns-then-mark c =
 
 pub start_of-start-requires : goal.start_of-start-requires
 start_of-start-requires c =
-    let q = c.requires in
-    (q.0, q.2, mark_below (read (goal.at.start_of-start-requires c).In_ok-mark))
+    let e = c.record-record.ensures in
+    rw (e.words, e.len, e.polarity) (c.requires.2, mark_below (read (goal.at.start_of-start-requires c).In_ok-mark))
 
 pub returns : goal.returns
 returns c =
     let a = c.args in
     step_read a.words.now a.summary a.inventory.now a.spill.now a.rank a.hand _ (read (goal.at.returns c).In_ok-mark)
-    c.if-mark.false c.start_of-start.result c.start_of-start.ensures c.read_from.result c.read_from.ensures
+    c.if-mark.false _ c.record-record.ensures c.start_of-start.result c.start_of-start.ensures c.read_from.result c.read_from.ensures

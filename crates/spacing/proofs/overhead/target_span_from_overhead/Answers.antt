@@ -1,16 +1,12 @@
 -- The shift gives a power of two within the largest M, so that all fits; what the calls return makes the definition.
 use Rattle.std.proofs.Common.{ℕ, ◌*◌, ◌%◌, ◌^◌, ◌≤◌, ◌∙◌, arith, pow_mono}
 use lib.Ieee.{of_bits, of_int}
-use Rattle.rank_sel.proofs.Shift.{shl_one}
+use Rattle.std.proofs.lemmas.Nat.{one_shl}
 use Rattle.spacing.specs.Spacing.{max_log2_words, overhead_target, overhead_span}
 use Rattle.spacing.proofs.overhead.target_span_from_overhead.Goals as goal
 
 power : (k : ℕ) → k ≤ max_log2_words → 1 * 2 ^ k % 2 ^ 64 ≤ 2 ^ max_log2_words
-power k h = rw (shl_one k (omega arith)) (pow_mono h)
-
-pub overflow_add-m : goal.overflow_add-m
-overflow_add-m c =
-    omega (arith, power _ c.requires)
+power k h = rw (one_shl k 64 (omega arith)) (pow_mono h)
 
 pub overflow_mul-m : goal.overflow_mul-m
 overflow_mul-m c =
@@ -24,5 +20,5 @@ returns c =
     ∙ rw (
       c.saturating_f64_to_u64.ensures,
       c.nearest_u64_to_f64.ensures,
-      shl_one a.max_log2_words (omega arith),
+      one_shl a.max_log2_words 64 (omega arith),
     )

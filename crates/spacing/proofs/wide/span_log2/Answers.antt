@@ -1,5 +1,5 @@
 use Rattle.std.proofs.Common.{◌≡◌, ◌-◌, max, arith}
-use Rattle.rank_sel.proofs.Shift.{shl_within}
+use Rattle.std.proofs.lemmas.Nat.{one_shl}
 use Rattle.spacing.proofs.Span.{span_most, span_here, span_below}
 use Rattle.spacing.proofs.wide.span_log2.Goals as goal
 
@@ -12,12 +12,12 @@ returns-then-l-num_bits c =
     let a = c.args in
     let l = c.loop-l.l - 1 in
     let d : c.max-num_bits.result ≡ max 1 a.len = omega (arith, c.max-num_bits.ensures) in
-    span_here a.num a.span a.len l (rw (shl_within 128 l (omega arith), d) at c.if-l-num_bits.true) (omega (arith, c.loop-l.invariant))
+    span_here a.num a.span a.len l (rw (one_shl l 128 (omega arith), d) at c.if-l-num_bits.true) (omega (arith, c.loop-l.invariant))
 
 pub loop-l-preserved : goal.loop-l-preserved
 loop-l-preserved c =
     let a = c.args in
     let l = c.loop-l.l - 1 in
     let d : c.max-num_bits.result ≡ max 1 a.len = omega (arith, c.max-num_bits.ensures) in
-    let h = span_below a.num a.span a.len l (omega (arith, c.loop-l-test.true)) (rw (shl_within 128 l (omega arith), d) at c.if-l-num_bits.false) in
+    let h = span_below a.num a.span a.len l (omega (arith, c.loop-l-test.true)) (rw (one_shl l 128 (omega arith), d) at c.if-l-num_bits.false) in
     omega (arith, h, c.loop-l-test.true)

@@ -9,13 +9,13 @@ use Rattle.spacing.specs.Spacing.{M}
 use Rattle.inventory.specs.Index.{stream}
 use Rattle.inventory.proofs.Marks.{Streamable}
 use Rattle.build_inventory.specs.Placed.{pos_at}
-use Rattle.build_inventory.proofs.Parts.{part_long, back_long}
+use Rattle.build_inventory.proofs.Parts.{part_long}
 use Rattle.build_inventory.proofs.Positions.{streams}
-use Rattle.build_inventory.proofs.Stream.{cursor_small, own_made}
-use Rattle.build_inventory.proofs.planned.Placed.write_own.Goals.{After-first_cursor-c, After-write_heads, Start}
+use Rattle.build_inventory.proofs.Cells.{cursor_small, own_made}
+use Rattle.build_inventory.proofs.planned.Placed.write_own.Goals.{After-stream, After-write_heads, Start}
 use Rattle.build_inventory.proofs.planned.Placed.write_own.Goals as goal
 
-marks : (c : Start) → Streamable (pos_at c.args.self.now) c.args.self.now.plan c.args.self.now.entry
+marks : (c : Start) → Streamable (pos_at c.args.self.now) c.args.self.now.planned.plan c.args.self.now.entry
 marks c = streams c.args.self.now
 
 -- with the heads written
@@ -29,9 +29,9 @@ module _ (c : After-write_heads) where
   long : length stored ≡ length c.args.cells.now
   long = c.write_heads.auto.cells
 
-  room : (heads ≤ 1) × (1 ≤ 2 ^ M c.args.self.now.plan) × (1 + heads ≤ length stored)
+  room : (heads ≤ 1) × (1 ≤ 2 ^ M c.args.self.now.planned.plan) × (1 + heads ≤ length stored)
   room =
-      let o = pow_pos (M c.args.self.now.plan) in
+      let o = pow_pos (M c.args.self.now.planned.plan) in
       let h = (marks (goal.at.After-write_heads c).Start).shaped.heads in
       (h, o, omega (arith, long, c.requires))
 
@@ -39,30 +39,22 @@ pub overflow_add-x : goal.overflow_add-x
 overflow_add-x c =
     record { fits = (marks (goal.at.overflow_add-x c).Start).tagged }
 
-pub write_heads-requires : goal.write_heads-requires
-write_heads-requires c =
-    omega (arith, c.requires, pow_pos (M c.args.self.now.plan))
-
 pub overflow_add-from : goal.overflow_add-from
 overflow_add-from c =
     omega (arith, room (goal.at.overflow_add-from c).After-write_heads)
 
-pub overflow_add-to : goal.overflow_add-to
-overflow_add-to c =
-    omega (arith, room (goal.at.overflow_add-to c).After-write_heads, c.pow2-own.ensures, c.well_formed.1.1, c.requires)
-
 -- behind the heads
-module _ (c : After-first_cursor-c) where
+module _ (c : After-stream) where
   abbrev held : ℕ
-  held = c.pow2-own.result + 1 - (1 + heads (goal.at.After-first_cursor-c c).After-write_heads)
+  held = c.pow2-own.result + 1 - (1 + heads (goal.at.After-stream c).After-write_heads)
 
-  long_part : length (take held (drop (1 + heads (goal.at.After-first_cursor-c c).After-write_heads) (stored (goal.at.After-first_cursor-c c).After-write_heads))) ≡ held
+  long_part : length (take held (drop (1 + heads (goal.at.After-stream c).After-write_heads) (stored (goal.at.After-stream c).After-write_heads))) ≡ held
   long_part =
-      let w = (goal.at.After-first_cursor-c c).After-write_heads in
+      let w = (goal.at.After-stream c).After-write_heads in
       part_long (stored w) (1 + heads w) held (omega (arith, room w, long w, c.pow2-own.ensures, c.requires))
 
-  held_is : held ≡ 2 ^ M c.args.self.now.plan - c.args.self.now.entry.shape.heads
-  held_is = let w = (goal.at.After-first_cursor-c c).After-write_heads in omega (arith, c.pow2-own.ensures, room w)
+  held_is : held ≡ 2 ^ M c.args.self.now.planned.plan - c.args.self.now.entry.shape.heads
+  held_is = let w = (goal.at.After-stream c).After-write_heads in omega (arith, c.pow2-own.ensures, room w)
 
 pub offset_bounds-cells-from : goal.offset_bounds-cells-from
 offset_bounds-cells-from c =
@@ -79,35 +71,25 @@ slice_bounds-write_cells-start c =
 pub write_cells-requires : goal.write_cells-requires
 write_cells-requires c =
     let at_write_heads = (goal.at.write_cells-requires c).After-write_heads in
-    let r = c.requires in
-    let f = c.first_cursor-c in (
-      f.ensures.1,
-      rw (long_part (goal.at.write_cells-requires c).After-first_cursor-c)
-          (cursor_small (marks (goal.at.write_cells-requires c).Start).shaped (M c.args.self.now.plan) f.result.k _ c.args.self.now.of.small_m (omega (arith, f.ensures.0))
-          (omega (arith, long at_write_heads, c.well_formed.1.1))),
-    )
-
-pub shape_of-cells : goal.shape_of-cells
-shape_of-cells c =
-    let f = (goal.at.shape_of-cells c).After-first_cursor-c in
-    let w = (goal.at.shape_of-cells c).After-write_heads in
-    back_long c.args.cells.now (stored w) c.write_cells.new.cells (1 + heads w) (held f) (long w)
-    (omega (arith, room w, long w, c.pow2-own.ensures, c.requires)) c.write_cells.auto.cells
+    let f = c.stream in
+    rw (long_part (goal.at.write_cells-requires c).After-stream)
+    (cursor_small (marks (goal.at.write_cells-requires c).Start).shaped (M c.args.self.now.planned.plan) f.result.k _ c.args.self.now.planned.of.small_m (omega (arith, f.ensures.1))
+    (omega (arith, long at_write_heads, c.well_formed.1.1)))
 
 pub returns : goal.returns
 returns c =
     let at_write_heads = (goal.at.returns c).After-write_heads in
-    let at_cursor = (goal.at.returns c).After-first_cursor-c in
+    let at_stream = (goal.at.returns c).After-stream in
     let a = c.args in
-    let own = 2 ^ M a.self.now.plan in
+    let own = 2 ^ M a.self.now.planned.plan in
     let h = heads at_write_heads in
     let w = c.write_cells in
-    let f = c.first_cursor-c in
+    let f = c.stream in
     record {
-      cells = own_made (pos_at a.self.now) a.self.now.entry own a.before (marks (goal.at.returns c).Start).shaped.heads (pow_pos (M a.self.now.plan))
-          a.cells.now (stored at_write_heads) w.new.cells (1 + h) (held at_cursor) f.result.k
-          c.write_heads.ensures c.requires refl (held_is at_cursor) f.ensures.0
-          (w.ensures.cells ∙ ap (stream (pos_at a.self.now) a.self.now.entry f.result.k) (long_part at_cursor));
-      number = w.ensures.number ∙ rw (long_part at_cursor, held_is at_cursor, f.ensures.0);
-      stands = w.ensures.stands;
+      cells = own_made (pos_at a.self.now) a.self.now.entry own a.before (marks (goal.at.returns c).Start).shaped.heads (pow_pos (M a.self.now.planned.plan))
+          a.cells.now (stored at_write_heads) w.new.cells (1 + h) (held at_stream) f.result.k
+          c.write_heads.ensures c.requires refl (held_is at_stream) f.ensures.1
+          (rw f.ensures.0 at w.ensures.cells ∙ ap (stream (pos_at a.self.now) a.self.now.entry f.result.k) (long_part at_stream));
+      entry = w.ensures.entry ∙ f.ensures.0;
+      number = rw (f.ensures.0, long_part at_stream, held_is at_stream, f.ensures.1) at w.ensures.number;
     }

@@ -1,5 +1,5 @@
 -- Each field is reckoned as `entry_of` says it (`entry_made`); the span is no wrapped difference, since the starts rise.
-use mathlib.Core.Path.{◌≡◌, refl, sym, ap, ◌∙◌}
+use mathlib.Core.Path.{◌≡◌, sym, ap, ◌∙◌}
 use Prim.Native.Nat.{ℕ, ◌+◌, ◌*◌, ◌^◌, ◌≤◌, ◌<◌}
 use native.Mathlib.Omega.{arith}
 use lib.Pow.{pow_pos}
@@ -84,8 +84,4 @@ made c =
 
 pub invariant_of-result : goal.invariant_of-result
 invariant_of-result c =
-    record { of = c.args.self.now.of; within = c.requires.0; is = made (goal.at.invariant_of-result c).After-spilled_by-spilled }
-
-pub returns : goal.returns
-returns c =
-    (refl, refl, made (goal.at.returns c).After-spilled_by-spilled)
+    record { within = c.requires.0; is = made (goal.at.invariant_of-result c).After-spilled_by-spilled }

@@ -5,7 +5,6 @@ use Rattle.inventory.specs.Index.{entries_of, stride}
 use Rattle.inventory.proofs.Ranks.{entry_below}
 use Rattle.build_inventory.proofs.Fill.{stand_none, stand_end, stand_last, stand_cells, stand_spill, stand_more}
 use Rattle.build_inventory.proofs.Parts.{part_fits}
-use Rattle.build_inventory.proofs.Positions.{small}
 use Rattle.build_inventory.proofs.planned.Planned.fill.Goals.{After-entry_at-x, In-loop-e}
 use Rattle.build_inventory.proofs.planned.Planned.fill.Goals as goal
 
@@ -18,20 +17,12 @@ module _ (c : After-entry_at-x) where
   room : stride c.args.self.now.plan + c.loop-e.at ≤ length c.loop-e.inventory
   room =
       let r = c.requires in
-      stand_cells r.cells r.spills c.loop-e.invariant (below (goal.at.After-entry_at-x c).In-loop-e) c.entry_at-x.ensures.2
+      stand_cells r.cells r.spills c.loop-e.invariant (below (goal.at.After-entry_at-x c).In-loop-e) c.entry_at-x.ensures.1
 
   spill_room : c.entry_at-x.result.entry.spilled + c.loop-e.spilled ≤ length c.loop-e.spill
   spill_room =
       let r = c.requires in
-      stand_spill r.cells r.spills c.loop-e.invariant (below (goal.at.After-entry_at-x c).In-loop-e) c.entry_at-x.ensures.2
-
-pub entry_count-entries-requires : goal.entry_count-entries-requires
-entry_count-entries-requires c =
-    small c.args.self.now
-
-pub entry_len-cells-requires : goal.entry_len-cells-requires
-entry_len-cells-requires c =
-    c.args.self.now.of.small_m
+      stand_spill r.cells r.spills c.loop-e.invariant (below (goal.at.After-entry_at-x c).In-loop-e) c.entry_at-x.ensures.1
 
 pub loop-e-init : goal.loop-e-init
 loop-e-init c =
@@ -70,7 +61,7 @@ pub write_entry-requires : goal.write_entry-requires
 write_entry-requires c =
     let at_entry_at_x = (goal.at.write_entry-requires c).After-entry_at-x in
     let l = c.loop-e in (
-      rw c.entry_at-x.ensures.1 (part_fits l.inventory l.at (stride c.args.self.now.plan) (room at_entry_at_x)),
+      rw c.entry_at-x.ensures.0 (part_fits l.inventory l.at (stride c.args.self.now.plan) (room at_entry_at_x)),
       part_fits l.spill l.spilled c.entry_at-x.result.entry.spilled (spill_room at_entry_at_x),
     )
 
@@ -87,8 +78,8 @@ loop-e-preserved c =
     let r = c.requires in
     let w = c.write_entry in
     let e = c.entry_at-x.ensures in
-    stand_more r.cells r.spills c.loop-e.invariant (below (goal.at.loop-e-preserved c).In-loop-e) e.2
-    c.entry_len-cells.ensures (rw (e.0, e.1) at w.ensures) w.auto.cells w.auto.spill
+    stand_more r.cells r.spills c.loop-e.invariant (below (goal.at.loop-e-preserved c).In-loop-e) e.1
+    c.entry_len-cells.ensures (rw e.0 at w.ensures) w.auto.cells w.auto.spill
 
 pub offset_bounds-inventory-at-2 : goal.offset_bounds-inventory-at-2
 offset_bounds-inventory-at-2 c =
@@ -99,10 +90,6 @@ pub bounds-inventory-at : goal.bounds-inventory-at
 bounds-inventory-at c =
     let r = c.requires in
     stand_end r.cells r.spills c.loop-e.invariant
-
-pub shape_of-spill : goal.shape_of-spill
-shape_of-spill c =
-    c.loop-e.invariant.spill_long
 
 pub returns : goal.returns
 returns c =

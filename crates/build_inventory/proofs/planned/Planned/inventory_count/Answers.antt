@@ -5,7 +5,6 @@ use native.Mathlib.Omega.{arith}
 use borrow.Author.Tests.{lt-ltb, le-ltb}
 use Rattle.rank_sel.specs.Outcome.{answer}
 use Rattle.inventory.specs.Index.{inventory_len_of}
-use Rattle.build_inventory.proofs.Positions.{small}
 use Rattle.build_inventory.proofs.Turns.{len_over, len_within}
 use Rattle.build_inventory.proofs.planned.Planned.inventory_count.Goals.{Else-most-cells}
 use Rattle.build_inventory.proofs.planned.Planned.inventory_count.Goals as goal
@@ -18,10 +17,6 @@ module _ (c : Else-most-cells) where
       let a = c.args in
       len_within a.self.now.plan a.most (omega arith) c.entry_count-count.ensures c.entry_len-cells.ensures c.if-most-cells.false
 
-pub entry_count-count-requires : goal.entry_count-count-requires
-entry_count-count-requires c =
-    small c.args.self.now
-
 pub returns-then-most-eq0 : goal.returns-then-most-eq0
 unfolding inventory_len_of
 returns-then-most-eq0 c =
@@ -32,14 +27,6 @@ returns-then-most-cells c =
     let a = c.args in
     let l = len_over a.self.now.plan a.most (omega arith) c.entry_count-count.ensures c.entry_len-cells.ensures c.if-most-cells.true in
     rw (lt-ltb a.most (inventory_len_of a.self.now.plan) l)
-
-pub overflow_mul-result : goal.overflow_mul-result
-overflow_mul-result c =
-    record { fits = omega (arith, within c) }
-
-pub overflow_add-result : goal.overflow_add-result
-overflow_add-result c =
-    record { fits = omega (arith, within c) }
 
 pub returns : goal.returns
 returns c =

@@ -6,7 +6,6 @@ use Rattle.inventory.specs.Index.{entries_of, stride}
 use Rattle.inventory.proofs.Ranks.{entry_below}
 use Rattle.build_inventory.proofs.Comparing.{agree_none, agree_end, agree_last, agree_cells, agree_spill, agree_more, agree_stop}
 use Rattle.build_inventory.proofs.Parts.{part_fits}
-use Rattle.build_inventory.proofs.Positions.{small}
 use Rattle.build_inventory.proofs.planned.Planned.same_index.Goals.{After-entry_at-x, After-loop-e, In-loop-e}
 use Rattle.build_inventory.proofs.planned.Planned.same_index.Goals as goal
 
@@ -19,26 +18,18 @@ module _ (c : After-entry_at-x) where
   room : stride c.args.self.now.plan + c.loop-e.at ≤ length c.args.inventory.now
   room =
       let r = c.requires in
-      agree_cells r.cells r.spills c.loop-e.invariant (below (goal.at.After-entry_at-x c).In-loop-e) c.entry_at-x.ensures.2
+      agree_cells r.cells r.spills c.loop-e.invariant (below (goal.at.After-entry_at-x c).In-loop-e) c.entry_at-x.ensures.1
 
   spill_room : c.entry_at-x.result.entry.spilled + c.loop-e.spilled ≤ length c.args.spill.now
   spill_room =
       let r = c.requires in
-      agree_spill r.cells r.spills c.loop-e.invariant (below (goal.at.After-entry_at-x c).In-loop-e) c.entry_at-x.ensures.2
+      agree_spill r.cells r.spills c.loop-e.invariant (below (goal.at.After-entry_at-x c).In-loop-e) c.entry_at-x.ensures.1
 
 -- after the last: the closing cell is there
 end : (c : After-loop-e) → c.loop-e.at < length c.args.inventory.now
 end c =
     let r = c.requires in
     agree_end r.cells r.spills c.loop-e.invariant
-
-pub entry_count-count-requires : goal.entry_count-count-requires
-entry_count-count-requires c =
-    small c.args.self.now
-
-pub entry_len-cells-requires : goal.entry_len-cells-requires
-entry_len-cells-requires c =
-    c.args.self.now.of.small_m
 
 pub loop-e-init : goal.loop-e-init
 loop-e-init c =
@@ -77,7 +68,7 @@ pub same_entry-requires : goal.same_entry-requires
 same_entry-requires c =
     let at_entry_at_x = (goal.at.same_entry-requires c).After-entry_at-x in
     let l = c.loop-e in (
-      rw c.entry_at-x.ensures.1 (part_fits c.args.inventory.now l.at (stride c.args.self.now.plan) (room at_entry_at_x)),
+      rw c.entry_at-x.ensures.0 (part_fits c.args.inventory.now l.at (stride c.args.self.now.plan) (room at_entry_at_x)),
       part_fits c.args.spill.now l.spilled c.entry_at-x.result.entry.spilled (spill_room at_entry_at_x),
     )
 
@@ -85,8 +76,8 @@ pub returns-then-not-same_entry : goal.returns-then-not-same_entry
 returns-then-not-same_entry c =
     let r = c.requires in
     let e = c.entry_at-x.ensures in
-    agree_stop r.cells r.spills c.loop-e.invariant (below (goal.at.returns-then-not-same_entry c).In-loop-e) e.2 refl refl
-    (sym (rw (e.0, e.1) at c.same_entry.ensures) ∙ c.if-not-same_entry.true)
+    agree_stop r.cells r.spills c.loop-e.invariant (below (goal.at.returns-then-not-same_entry c).In-loop-e) e.1 refl refl
+    (sym (rw e.0 at c.same_entry.ensures) ∙ c.if-not-same_entry.true)
 
 pub overflow_add-at : goal.overflow_add-at
 overflow_add-at c =
@@ -100,8 +91,8 @@ pub loop-e-preserved : goal.loop-e-preserved
 loop-e-preserved c =
     let r = c.requires in
     let e = c.entry_at-x.ensures in
-    agree_more r.cells r.spills c.loop-e.invariant (below (goal.at.loop-e-preserved c).In-loop-e) e.2 refl refl
-    c.entry_len-cells.ensures (sym (rw (e.0, e.1) at c.same_entry.ensures) ∙ c.if-not-same_entry.false)
+    agree_more r.cells r.spills c.loop-e.invariant (below (goal.at.loop-e-preserved c).In-loop-e) e.1 refl refl
+    c.entry_len-cells.ensures (sym (rw e.0 at c.same_entry.ensures) ∙ c.if-not-same_entry.false)
 
 pub offset_bounds-inventory-at-2 : goal.offset_bounds-inventory-at-2
 offset_bounds-inventory-at-2 c =

@@ -1,15 +1,12 @@
-use mathlib.Core.Path.{◌≡◌, ap, ◌∙◌}
-use Prim.Native.Nat.{◌+◌, ◌^◌, ◌<◌}
+use Prim.Native.Nat.{◌+◌, ◌<◌}
 use native.Mathlib.Omega.{arith}
 use lib.Pow.{pow_mono}
 use Rattle.spacing.specs.Spacing.{L}
-use Rattle.inventory.specs.Index.{entries_of, spill_start}
+use Rattle.inventory.specs.Index.{entries_of}
 use Rattle.inventory.proofs.Index.{spill_start_few}
 use Rattle.inventory.proofs.Ranks.{entry_below}
-use Rattle.inventory.proofs.Lanes.{turn_more}
 use Rattle.build_inventory.specs.Placed.{pos_of}
 use Rattle.build_inventory.proofs.Turns.{Reached, reached_none, reached_more}
-use Rattle.build_inventory.proofs.Positions.{small}
 use Rattle.build_inventory.proofs.planned.Planned.spill_count.Goals.{After-entry_at-x, In-loop-e}
 use Rattle.build_inventory.proofs.planned.Planned.spill_count.Goals as goal
 
@@ -22,11 +19,7 @@ more : (c : After-entry_at-x) →
     let a = c.args in
     let l = c.loop-e in
     Reached (pos_of a.self.now) a.self.now.plan (l.e + 1) (l.spilled + c.entry_at-x.result.entry.spilled) c.entry_at-x.result.entry.next
-more c = reached_more c.loop-e.invariant (below (goal.at.After-entry_at-x c).In-loop-e) c.entry_at-x.ensures.2
-
-pub entry_count-count-requires : goal.entry_count-count-requires
-entry_count-count-requires c =
-    small c.args.self.now
+more c = reached_more c.loop-e.invariant (below (goal.at.After-entry_at-x c).In-loop-e) c.entry_at-x.ensures.1
 
 pub loop-e-init : goal.loop-e-init
 loop-e-init c =
@@ -45,15 +38,8 @@ overflow_add-spilled c =
     let u = pow_mono {i = L a.self.now.plan} {j = 63} r.small_l in
     let n = spill_start_few (pos_of a.self.now) a.self.now.plan (e + 1) in
     let m = (more (goal.at.overflow_add-spilled c).After-entry_at-x).spills in
-    record { fits = omega (arith, turn_more e (2 ^ L a.self.now.plan), entry_below a.self.now.plan e (below (goal.at.overflow_add-spilled c).In-loop-e), r.few, r.admitted.short) }
+    record { fits = omega (arith, entry_below a.self.now.plan e (below (goal.at.overflow_add-spilled c).In-loop-e), r.few, r.admitted.short) }
 
 pub loop-e-preserved : goal.loop-e-preserved
 loop-e-preserved c =
     more (goal.at.loop-e-preserved c).After-entry_at-x
-
-pub returns : goal.returns
-returns c =
-    let a = c.args in
-    let l = c.loop-e in
-    let e : l.e ≡ entries_of a.self.now.plan = omega (arith, c.entry_count-count.ensures, l.invariant.within) in
-    l.invariant.spills ∙ ap (spill_start (pos_of a.self.now) a.self.now.plan) e
