@@ -19,7 +19,7 @@ const BLOCK: usize = 8;
 
 impl Record<'_> {
     // The selected position at or after `from` with exactly `k` selected between, `from` included: the loop over words of
-    // every seek.
+    // every seek. By their numbers, of which the position is made.
     pub fn seek_from(&self, from: u64, k: u64) -> Option<Found>
         ensures { Finds (selects self.now) (self.now.len - from) from k result }
     {

@@ -102,7 +102,9 @@ impl Placed<'_> {
         stream
     }
 
-    // An entry's own cells. The stream of a kind without a second head begins at the second cell, over what is put there.
+    // An entry's own cells. The stream of a kind without a second head begins at the second cell, over what is put there. The lent
+    // cells and what they are at least stay parameters here, in `write_entry` and in their twins: in a struct the ones written would
+    // be `&mut`s, of which no proof is made after one was lent.
     fn write_own(&self, before: u64, cells: &mut [u64]) -> Stream<'_>
         requires { stride self.now.planned.plan ≤ length cells.old }
         ensures { WroteOwn self.now before cells.old cells.new result }

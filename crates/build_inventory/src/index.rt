@@ -15,8 +15,10 @@ use crate::stream::Stream;
 use inventory::{entry_count, entry_len};
 use rank_sel::{Refusal, pow2};
 
-// This and what follows, up to `same_index`, are twins of the writers: `write_heads`, `write_own`, `write_entry`, `fill`. One walk
-// for both, over a trait, is no plainer, since each contract has to say both.
+// Check's side: `same_heads`, `same_own`, `same_entry` and `same_index` are twins of build's `write_heads`, `write_own`, `write_entry`
+// and `fill`. One walk for both, over a trait of cells, is no plainer, since each contract has to say both; and in a small case no
+// clause said that the walk keeps the slice it was lent.
+
 // Whether the cells before an entry's lanes are these.
 fn same_heads(cells: &[u64], heads: u64, first: u64, second: u64) -> bool
     requires { (heads ≤ 1) × (2 ≤ length cells.now) }

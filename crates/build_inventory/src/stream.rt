@@ -21,7 +21,7 @@ impl<'a> Stream<'a> {
     ghost use Rattle.build_inventory.specs.Compare.{Compared};
     ghost use Rattle.build_inventory.specs.Stream.{Stepped, Wrote};
 
-    // The next lane.
+    // The next lane. What each step asks of `k` differs: a lane, a cell of up to four, and so many cells.
     pub fn next_lane(&mut self) -> u64
         requires { self.old.k < 2 ^ 63 }
         ensures { Stepped self.old (lane (pos_at self.old.placed.now) self.old.placed.now.entry self.old.k) 1 self.new result }
@@ -65,7 +65,9 @@ impl<'a> Stream<'a> {
         cell
     }
 
-    // Writes the next cells. By value, like `same_cells`: behind a reference the stream would stay in memory through the loop.
+    // Writes the next cells. By value and inlined, like `same_cells`: else the stream, or its entry, is read anew from memory in
+    // each turn of the loop.
+    #[inline(always)]
     pub fn write_cells(self, cells: &mut [u64]) -> Stream<'a>
         requires { self.k + 4 * length cells.old + 4 < 2 ^ 63 }
         ensures { Wrote self.entry cells.old cells.new result }
@@ -78,6 +80,7 @@ impl<'a> Stream<'a> {
     }
 
     // The stream behind these cells, if they are the next ones. A twin of `write_cells`, as those in index.rt.
+    #[inline(always)]
     pub fn same_cells(self, cells: &[u64]) -> Option<Stream<'a>>
         requires { self.k + 4 * length cells.now + 4 < 2 ^ 63 }
         ensures { Compared self.entry cells.now result }

@@ -14,6 +14,7 @@ use inventory::{SUMMARY_NUMBERS, cut, numbers_of, polarity_at, summary_at};
 
 // C's statuses, polarities and kinds are numbers: here they are made of refusals, polarities and choices, and read as such. Its
 // interface has them beside one another, and a choice in four parts.
+
 // A polarity or a kind that is none. No refusal has this number.
 const BAD_CODE: u32 = 255;
 
@@ -227,12 +228,11 @@ pub fn edge_index_select(
 ) -> u32
     ensures { Returned (select_c words.now summary.now inventory.now spill.now rank) result position.old position.new }
 {
-    // Not by `read`, whose Option costs a jump at rising ranks 1.8 ns (30.2 to 32.0, 2^20 bits, half of them ones).
-    if summary[0] > 1 {
+    let Some(summary) = read(summary) else {
         return BAD_CODE;
-    }
+    };
     give(
-        edge_index::select(words, summary_at(summary), inventory, spill, rank),
+        edge_index::select(words, summary, inventory, spill, rank),
         position,
     )
 }

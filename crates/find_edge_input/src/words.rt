@@ -2,7 +2,7 @@
 ghost use Rattle.std.specs.Prelude.{◌≡◌, ◌*◌, ◌<◌, ◌≤◌, length};
 ghost use Rattle.find_edge_input.specs.Words.{packed, word_of};
 
-// A byte past the end counts as 0.
+// Word i. A byte past the end counts as 0. By its number, as its definition is.
 fn word_of(bytes: &[u8], i: usize) -> u64
     requires { 8 * i < length bytes.now }
     ensures { result ≡ word_of bytes.now i }

@@ -1,4 +1,4 @@
-// A record and the index over it, and what the program shows of them.
+// A record and the index over it, untested here, since each call of the library tests it; and what the program shows of them.
 use crate::report::{self, Fault, Stop, TextError};
 use crate::saved::write_file;
 use edge_index::{Summary, dwell, select, write_image};

@@ -80,7 +80,7 @@ fn show_read(rt: &impl Print, bytes: &[u8]) -> io::Result<()> {
     }
 }
 
-// The first n of some bytes, or all where they are fewer.
+// The first n of some bytes, or all where they are fewer: n is told, and may be more.
 fn first(bytes: &[u8], n: usize) -> &[u8] {
     bytes.get(..n).unwrap_or(bytes)
 }

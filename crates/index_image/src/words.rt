@@ -2,7 +2,8 @@
 ghost use Rattle.std.specs.Prelude.{◌≡◌, ◌+◌, ◌*◌, ◌≤◌, length};
 ghost use Rattle.index_image.specs.Bytes.{bytes_of, put_at, words_from};
 
-// Writes the bytes of the cells from a place on, and nothing else. Not into a slice from there on: the contract says where.
+// Writes the bytes of the cells from a place on, and nothing else. A slice from there on is no plainer: each caller would have to
+// say that what stands before it is kept.
 pub(crate) fn write_words(bytes: &mut [u8], at: usize, cells: &[u64])
     requires { at + 8 * length cells.now ≤ length bytes.old }
     ensures { bytes.new ≡ put_at at (bytes_of cells.now) bytes.old }
@@ -13,7 +14,7 @@ pub(crate) fn write_words(bytes: &mut [u8], at: usize, cells: &[u64])
     }
 }
 
-// Reads the words from a place on into the cells. By an index: no contract says what a `zip` over `iter_mut` leaves.
+// Reads the words from a place on into the cells, by a place as `write_words` has one. By an index: no contract says what a `zip` over `iter_mut` leaves.
 pub(crate) fn read_words(bytes: &[u8], at: usize, cells: &mut [u64])
     requires { at + 8 * length cells.old ≤ length bytes.now }
     ensures { cells.new ≡ words_from bytes.now at (length cells.old) }

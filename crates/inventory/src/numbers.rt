@@ -28,7 +28,7 @@ pub fn cut(n: u64) -> u32
     u32::try_from(n).unwrap_or(u32::MAX)
 }
 
-// This and `numbers_of` by these names and not by `From`: the contracts of the image and of C name them.
+// This and `numbers_of` by these names, which the contracts of the image and of C have too: `From` would be no plainer.
 pub fn summary_at(s: &[u64; SUMMARY_NUMBERS]) -> Summary
     ensures { result ≡ summary_at s.now }
 {

@@ -27,7 +27,7 @@ pub struct Shape {
     pub tag: u64,
 }
 
-// SpanType::from_span of the Rust.
+// SpanType::from_span of the Rust. By that name, which the contracts have too: `From` would be no plainer.
 pub fn from_span(span: u64) -> SpanType
     ensures { result ≡ from_span span }
 {
@@ -59,7 +59,7 @@ pub fn log2_quantum(kind: SpanType, span: u64, log2_ones_per_sub16: u32) -> u32
     }
 }
 
-// The cells that an entry with so many marks spills.
+// The cells that an entry with so many marks spills. It asks for its own bounds, as `entry_count` and its kin do.
 pub fn spilled_by(kind: SpanType, marks: u64, log2_words_per_subinventory: u32) -> u64
     requires { (marks < 2 ^ 63) × (log2_words_per_subinventory < 64) }
     ensures { result ≡ spilled_by kind marks log2_words_per_subinventory }

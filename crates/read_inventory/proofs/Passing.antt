@@ -14,7 +14,9 @@ use Rattle.inventory.specs.Lawful.{of_summary, of_cells, Lawful, CellsHeld}
 use Rattle.inventory.specs.declared.summary.Summary.{Summary}
 use Rattle.inventory.proofs.Lawful.{lawful, lawful_none, cells_held, cells_none}
 use Rattle.read_inventory.specs.Jump.{sample_of, select_of, hint_sample, hint_of, dwell_at, dwell_of}
-use Rattle.read_inventory.specs.Tests.{of_index, of_rank, of_ranks, Readable}
+use Rattle.read_inventory.specs.Tested.{IndexOf}
+use Rattle.read_inventory.specs.Tests.{of_index, of_rank, of_ranks, Legible, Readable}
+use Rattle.read_inventory.specs.declared.index.Index.{Index}
 
 module _ (ws : List ℕ) (t : Summary) (inv sp : List ℕ) where
   -- record, summary and cells
@@ -23,16 +25,20 @@ module _ (ws : List ℕ) (t : Summary) (inv sp : List ℕ) where
     pub lawful : Lawful t
     pub held : CellsHeld t inv sp
 
+pub readable_by : (t : Summary) (inv sp : List ℕ) → Legible t inv sp → (r : ℕ) → r < N t.plan → Readable t inv sp r
+readable_by t inv sp c r l = record { short = c.short; lawful = c.lawful; held = c.held; below = l }
+
 module _ (ws : List ℕ) (t : Summary) (inv sp : List ℕ) where
-  pub index_held : NoneOf (of_index ws t inv sp) → IndexHeld ws t inv sp
+  -- test by test
+  pub index_by : NoneOf (of_record_from ws t.plan.len t.origin) → NoneOf (of_summary t) → NoneOf (of_cells t inv sp)
+      → IndexHeld ws t inv sp
+  index_by r s c = record { from = admitted_from ws t.plan.len t.origin r; lawful = lawful t s.0; held = cells_held t inv sp c }
+
+  index_held : NoneOf (of_index ws t inv sp) → IndexHeld ws t inv sp
   index_held h =
       let s = none_split (of_record_from ws t.plan.len t.origin) (of_summary t ++ of_cells t inv sp) h in
       let u = none_split (of_summary t) (of_cells t inv sp) s.1 in
-      record {
-        from = admitted_from ws t.plan.len t.origin s.0;
-        lawful = lawful t u.0.0;
-        held = cells_held t inv sp u.1;
-      }
+      index_by s.0 u.0 u.1
 
   pub index_none : IndexHeld ws t inv sp → NoneOf (of_index ws t inv sp)
   index_none i =
@@ -51,55 +57,53 @@ module _ (ws : List ℕ) (t : Summary) (inv sp : List ℕ) where
       ∙ sym (tests_then (of_index ws t inv sp ++ of_rank (N t.plan) r) (hint_sample t inv sp r))
 
   module _ (r : ℕ) (h : NoneOf (of_index ws t inv sp ++ of_rank (N t.plan) r)) where
-    pub call_held : IndexHeld ws t inv sp
+    call_held : IndexHeld ws t inv sp
     call_held = index_held (none_split (of_index ws t inv sp) (of_rank (N t.plan) r) h).0
 
     pub call_readable : Readable t inv sp r
     call_readable = readable call_held r (leb-false (N t.plan) r (none_split (of_index ws t inv sp) (of_rank (N t.plan) r) h).1.0)
 
--- ---- an index and a rank that passed the tests
-pub record Called (ws : List ℕ) (t : Summary) (inv sp : List ℕ) (r : ℕ) : Type 0 where
+-- ---- the index that was handed in, and a rank: they passed the tests
+pub record Called (ws : List ℕ) (t : Summary) (inv sp : List ℕ) (r : ℕ) (x : Index) : Type 0 where
   pub passed : answer tt ≡ test_by (of_index ws t inv sp ++ of_rank (N t.plan) r)
+  pub index : IndexOf ws t inv sp x
 
-module _ {ws : List ℕ} {t : Summary} {inv sp : List ℕ} {r : ℕ} (w : Called ws t inv sp r) where
-  none : NoneOf (of_index ws t inv sp ++ of_rank (N t.plan) r)
-  none = passed_none (of_index ws t inv sp ++ of_rank (N t.plan) r) w.passed
+module _ {ws : List ℕ} {t : Summary} {inv sp : List ℕ} {r : ℕ} {x : Index} (w : Called ws t inv sp r x) where
+  passed_as : answer tt ≡ test_by (of_index x.words.now x.cells.summary x.cells.inventory.now x.cells.spill.now ++ of_rank (N x.cells.summary.plan) r)
+  passed_as = let i = w.index in rw (i.words, i.summary, i.inventory, i.spill) w.passed
 
-  pub called_held : IndexHeld ws t inv sp
-  called_held = call_held ws t inv sp r none
+  pub called_readable : Readable x.cells.summary x.cells.inventory.now x.cells.spill.now r
+  called_readable =
+      call_readable x.words.now x.cells.summary x.cells.inventory.now x.cells.spill.now r
+      (passed_none (of_index x.words.now x.cells.summary x.cells.inventory.now x.cells.spill.now ++ of_rank (N x.cells.summary.plan) r) passed_as)
 
-  pub called_readable : Readable t inv sp r
-  called_readable = call_readable ws t inv sp r none
-
-  -- past the tests the entries are what the cells say
-  pub select_passed : sample_of ws t inv sp r ≡ select_of ws t inv sp r
+  -- past the tests the entries are what the index's cells say
+  pub select_passed : sample_of x.words.now x.cells.summary x.cells.inventory.now x.cells.spill.now r ≡ select_of ws t inv sp r
   unfolding select_of
-  select_passed = passed_then (of_index ws t inv sp ++ of_rank (N t.plan) r) w.passed (sample_of ws t inv sp r)
+  select_passed =
+      let i = w.index in
+      rw (i.words, i.summary, i.inventory, i.spill) (passed_then (of_index ws t inv sp ++ of_rank (N t.plan) r) w.passed (sample_of ws t inv sp r))
 
-  pub hint_passed : hint_sample t inv sp r ≡ hint_of ws t inv sp r
+  pub hint_as : hint_sample x.cells.summary x.cells.inventory.now x.cells.spill.now r ≡ hint_of x.words.now x.cells.summary x.cells.inventory.now x.cells.spill.now r
   unfolding hint_of
-  hint_passed = passed_then (of_index ws t inv sp ++ of_rank (N t.plan) r) w.passed (hint_sample t inv sp r)
+  hint_as =
+      passed_then (of_index x.words.now x.cells.summary x.cells.inventory.now x.cells.spill.now ++ of_rank (N x.cells.summary.plan) r) passed_as
+      (hint_sample x.cells.summary x.cells.inventory.now x.cells.spill.now r)
 
--- ---- an index and the ranks of a dwell that passed the tests
-pub record DwellCalled (ws : List ℕ) (t : Summary) (inv sp : List ℕ) (a b : ℕ) : Type 0 where
+  pub hint_passed : hint_sample x.cells.summary x.cells.inventory.now x.cells.spill.now r ≡ hint_of ws t inv sp r
+  hint_passed = let i = w.index in rw (← i.words, ← i.summary, ← i.inventory, ← i.spill) hint_as
+
+-- ---- and the ranks of a dwell
+pub record DwellCalled (ws : List ℕ) (t : Summary) (inv sp : List ℕ) (a b : ℕ) (x : Index) : Type 0 where
   pub passed : answer tt ≡ test_by (of_index ws t inv sp ++ of_ranks (N t.plan) a b)
+  pub index : IndexOf ws t inv sp x
 
-module _ {ws : List ℕ} {t : Summary} {inv sp : List ℕ} {a b : ℕ} (w : DwellCalled ws t inv sp a b) where
-  split : NoneOf (of_index ws t inv sp) × NoneOf (of_ranks (N t.plan) a b)
-  split = none_split (of_index ws t inv sp) (of_ranks (N t.plan) a b) (passed_none (of_index ws t inv sp ++ of_ranks (N t.plan) a b) w.passed)
-
-  pub dwell_held : IndexHeld ws t inv sp
-  dwell_held = index_held ws t inv sp split.0
-
-  pub dwell_first : Readable t inv sp a
-  dwell_first = readable ws t inv sp dwell_held a (leb-false (N t.plan) a split.1.0)
-
-  pub dwell_second : Readable t inv sp b
-  dwell_second = readable ws t inv sp dwell_held b (leb-false (N t.plan) b split.1.1.0)
-
-  pub dwell_passed : dwell_at ws t inv sp a b ≡ dwell_of ws t inv sp a b
-  unfolding dwell_of
-  dwell_passed = passed_then (of_index ws t inv sp ++ of_ranks (N t.plan) a b) w.passed (dwell_at ws t inv sp a b)
+pub dwell_passed : {ws : List ℕ} {t : Summary} {inv sp : List ℕ} {a b : ℕ} {x : Index} → DwellCalled ws t inv sp a b x
+    → dwell_at x.words.now x.cells.summary x.cells.inventory.now x.cells.spill.now a b ≡ dwell_of ws t inv sp a b
+unfolding dwell_of
+dwell_passed {ws = ws} {t = t} {inv = inv} {sp = sp} {a = a} {b = b} w =
+    let i = w.index in
+    rw (i.words, i.summary, i.inventory, i.spill) (passed_then (of_index ws t inv sp ++ of_ranks (N t.plan) a b) w.passed (dwell_at ws t inv sp a b))
 
 -- ---- a refusal that `?` hands on
 pub refused_so : {B : Type 0} (r : Result B Refusal) (e : Refusal) → IsErr r × IsErrAnd r (λ x. x ≡ e) → (o : Outcome B)

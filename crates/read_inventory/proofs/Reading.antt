@@ -21,7 +21,7 @@ use Rattle.inventory.specs.declared.shape.SpanType.TheVariants.{U16, U32, U64}
 use Rattle.inventory.specs.declared.summary.Summary.{Summary}
 use Rattle.inventory.proofs.Shapes.{lanes_pos}
 use Rattle.read_inventory.specs.Read.{tagged, start_by, cell_at, kind_at, start_at, span_at, quantum_at, shape_at, place_at, number_at}
-use Rattle.read_inventory.specs.Steps.{head_of, EntryLent, spacing_at, spot_place, spot_in, number_of_mark, SpotFor}
+use Rattle.read_inventory.specs.Steps.{head_of, EntryLent, HeadIn, spacing_at, spot_place, spot_in, number_of_mark, SpotFor}
 use Rattle.read_inventory.specs.declared.decode.Head.{Head}
 use Rattle.read_inventory.specs.declared.decode.Spot.{Spot}
 use Rattle.read_inventory.specs.declared.decode.Spot.TheVariants.{Start, Own, Over}
@@ -91,6 +91,10 @@ module _ (t : Summary) (inv : List ℕ) (e : ℕ) where
       → answer (log2_ones_per_sub32 (span_at t inv e) (S t.plan)) ≡ spacing_at t inv e
   unfolding spacing_at quantum_at
   spacing_32 k l = simp (k, le-ltb (span_at t inv e) 65537 l)
+
+-- the next entry's first cell is lent too
+pub next_in : (t : Summary) (inv : List ℕ) (h : Head) → HeadIn t inv h → h.cell + stride t.plan < length inv
+next_in t inv h r = omega (arith, ap (λ (x : Head). x.cell) r.read, r.lent.within)
 
 -- ---- a number
 -- h, s and p are entry e's head, its shape and the spot of mark i as the code has them

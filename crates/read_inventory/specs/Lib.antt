@@ -1,4 +1,5 @@
 pub mod Read
 pub mod Tests
+pub mod Tested
 pub mod Jump
 pub mod Steps

@@ -25,6 +25,12 @@ of_rank num r = (rank_too_large num r, 8) ∷ []
 abbrev pub of_ranks : ℕ → ℕ → ℕ → Conditions
 of_ranks num a b = of_rank num a ++ (of_rank num b ++ ((ranks_fall a b, 11) ∷ []))
 
+-- what passing shows of a summary and its cells
+pub record Legible (t : Summary) (inv sp : List ℕ) : Type 0 where
+  pub short : t.plan.len < 2 ^ 62
+  pub lawful : Lawful t
+  pub held : CellsHeld t inv sp
+
 -- what passing shows: a rank may be read
 pub record Readable (t : Summary) (inv sp : List ℕ) (r : ℕ) : Type 0 where
   pub short : t.plan.len < 2 ^ 62

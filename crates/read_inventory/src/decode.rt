@@ -1,15 +1,15 @@
 // Steps 2 to 6 on any cells: tag, start, place, number and mark.
 ghost use Rattle.std.specs.Prelude.{◌≡◌, ◌+◌, ◌*◌, ◌/◌, ◌%◌, ◌^◌, ◌≤◌, ◌<◌, length, get_or};
 ghost use Rattle.rank_sel.specs.Outcome.{outcome};
-ghost use Rattle.spacing.specs.Spacing.{max_log2_words};
+ghost use Rattle.spacing.specs.Spacing.{N, max_log2_words};
 ghost use Rattle.inventory.specs.Index.{stride};
 ghost use Rattle.inventory.specs.Lanes.{lane_of};
 ghost use Rattle.inventory.specs.Shape.{Shaped};
 ghost use Rattle.read_inventory.specs.Read.{mark_of_rank, span_at, start_by, tagged};
 ghost use Rattle.read_inventory.specs.Steps.{EntryLent, HeadIn, SpotFor, decode_of, head_of, mark_by, number_of_mark, spacing_at};
-ghost use Rattle.read_inventory.specs.Tests.{Readable};
 
-use inventory::{Shape, SpanType, Summary, entry_len, log2_ones_per_sub32, shape_of};
+use crate::index::Cells;
+use inventory::{Shape, SpanType, entry_len, log2_ones_per_sub32, shape_of};
 use rank_sel::{Refusal, pow2};
 use select_in_word::low_bits;
 use spacing::Parameters;
@@ -52,7 +52,7 @@ pub(crate) struct Decoded {
 }
 
 // Where the mark of a rank stands, the selected bits to pass from it on, and whether it is itself the answer: there is a mark
-// either way.
+// either way. That it stands below len is no field of it: the definitions' equations are of the three.
 #[derive(Clone, Copy)]
 pub struct Mark {
     pub at: u64,
@@ -89,55 +89,12 @@ fn start_of(kind: SpanType, cell: u64) -> u64
     }
 }
 
+// This and `place_of` ask for their own bound on M, as inventory's `entry_count` and its kin do.
 fn first_cell(plan: Parameters, entry: u64) -> u64
     requires { (plan.log2_words_per_subinventory ≤ max_log2_words) × (entry * stride plan < 2 ^ 64) }
     ensures { result ≡ entry * stride plan }
 {
     entry * entry_len(plan.log2_words_per_subinventory)
-}
-
-fn read_head(summary: Summary, inventory: &[u64], entry: u64) -> Head
-    requires { EntryLent summary inventory.now entry }
-    ensures { result ≡ head_of summary inventory.now entry }
-{
-    let plan = summary.plan;
-    let cell = first_cell(plan, entry);
-    let first = inventory[cell as usize];
-    let kind = kind_of(first);
-    let start = start_of(kind, first);
-    Head {
-        entry,
-        cell,
-        kind,
-        start,
-    }
-}
-
-fn span_at(summary: Summary, inventory: &[u64], head: Head) -> u64
-    requires { HeadIn summary inventory.now head }
-    ensures { result ≡ span_at summary inventory.now head.entry }
-{
-    let next = head.cell + entry_len(summary.plan.log2_words_per_subinventory);
-    low_bits(inventory[next as usize], START_BITS).saturating_sub(head.start)
-}
-
-// Only a U32 entry's spacing goes by its span: the next entry's cell is read for no other.
-fn quantum_at(summary: Summary, inventory: &[u64], head: Head) -> Result<u32, Refusal>
-    requires { HeadIn summary inventory.now head }
-    ensures { outcome result ≡ spacing_at summary inventory.now head.entry }
-{
-    let log2_ones_per_sub16 = summary.plan.log2_ones_per_sub16;
-    match head.kind {
-        SpanType::U16 => Ok(log2_ones_per_sub16),
-        SpanType::U32 => {
-            let span = span_at(summary, inventory, head);
-            if span < 65537 {
-                return Err(Refusal::CellsUnlawful);
-            }
-            Ok(log2_ones_per_sub32(span, log2_ones_per_sub16))
-        }
-        SpanType::U64 => Ok(0),
-    }
 }
 
 // Where the number of mark i stands.
@@ -166,73 +123,76 @@ fn lane_of(width: u64, cell: u64, lane: u64) -> u64
     (cell >> (width * lane)) & (u64::MAX >> (64 - width))
 }
 
-// The number of mark i. The spilled cell's number may pass 2^64: it is held to the count before it is reckoned.
-fn number_at(
-    summary: Summary,
-    inventory: &[u64],
-    spill: &[u64],
+// An entry whose first cell is read.
+#[derive(Clone, Copy)]
+struct OpenEntry<'a> {
+    cells: Cells<'a>,
     head: Head,
-    i: u64,
-) -> Result<Number, Refusal>
-    requires { HeadIn summary inventory.now head × (summary.spill_len ≤ length spill.now) }
-    ensures { outcome result ≡ number_of_mark summary inventory.now spill.now head.entry i }
-{
-    let first = head.cell + 1;
-    let shape = shape_of(head.kind, head.start);
-    let spot = place_of(shape, summary.plan.log2_words_per_subinventory, i);
-    match spot {
-        Spot::Start => Ok(Number {
-            value: head.start,
-            spilled: false,
-        }),
-        Spot::Own(n, lane) => {
-            let at = (first + shape.heads + n) as usize;
-            let value = lane_of(shape.width, inventory[at], lane);
-            Ok(Number {
-                value,
-                spilled: false,
-            })
-        }
-        Spot::Over(n, lane) => {
-            let from = inventory[first as usize];
-            if summary.spill_len.saturating_sub(from) <= n {
-                return Err(Refusal::CellsUnlawful);
-            }
-            let value = lane_of(shape.width, spill[(from + n) as usize], lane);
-            Ok(Number {
-                value,
-                spilled: true,
-            })
-        }
-    }
+    ghost read: { HeadIn cells.summary cells.inventory.now head },
 }
 
-pub(crate) fn decode(
-    summary: Summary,
-    inventory: &[u64],
-    spill: &[u64],
-    rank: u64,
-) -> Result<Decoded, Refusal>
-    requires { Readable summary inventory.now spill.now rank }
-    ensures { outcome result ≡ decode_of summary inventory.now spill.now rank }
-{
-    let plan = summary.plan;
-    let head = read_head(summary, inventory, rank >> plan.log2_ones_per_inventory);
-    let log2_quantum = quantum_at(summary, inventory, head)?;
-    let subrank = low_bits(rank, plan.log2_ones_per_inventory as u64);
-    let number = number_at(summary, inventory, spill, head, subrank >> log2_quantum)?;
-    let base = shape_of(head.kind, head.start).base;
-    if plan.len.saturating_sub(base) <= number.value {
-        return Err(Refusal::CellsUnlawful);
+impl OpenEntry<'_> {
+    fn span(self) -> u64
+        ensures { result ≡ span_at self.entry.cells.summary self.entry.cells.inventory.now self.entry.head.entry }
+    {
+        let cells = self.cells;
+        let next = self.head.cell + entry_len(cells.summary.plan.log2_words_per_subinventory);
+        low_bits(cells.inventory[next as usize], START_BITS).saturating_sub(self.head.start)
     }
-    let residual = low_bits(subrank, log2_quantum as u64);
-    Ok(Decoded {
-        head,
-        log2_quantum,
-        mark: base + number.value,
-        residual,
-        spilled: number.spilled,
-    })
+
+    // Only a U32 entry's spacing goes by its span: the next entry's cell is read for no other.
+    fn log2_quantum(self) -> Result<u32, Refusal>
+        ensures { outcome result ≡ spacing_at self.entry.cells.summary self.entry.cells.inventory.now self.entry.head.entry }
+    {
+        let log2_ones_per_sub16 = self.cells.summary.plan.log2_ones_per_sub16;
+        match self.head.kind {
+            SpanType::U16 => Ok(log2_ones_per_sub16),
+            SpanType::U32 => {
+                let span = self.span();
+                if span < 65537 {
+                    return Err(Refusal::CellsUnlawful);
+                }
+                Ok(log2_ones_per_sub32(span, log2_ones_per_sub16))
+            }
+            SpanType::U64 => Ok(0),
+        }
+    }
+
+    // The number of mark i. The spilled cell's number may pass 2^64: it is held to the count before it is reckoned.
+    fn number(self, i: u64) -> Result<Number, Refusal>
+        ensures { outcome result ≡ number_of_mark self.entry.cells.summary self.entry.cells.inventory.now self.entry.cells.spill.now self.entry.head.entry i }
+    {
+        let cells = self.cells;
+        let head = self.head;
+        let first = head.cell + 1;
+        let shape = shape_of(head.kind, head.start);
+        let spot = place_of(shape, cells.summary.plan.log2_words_per_subinventory, i);
+        match spot {
+            Spot::Start => Ok(Number {
+                value: head.start,
+                spilled: false,
+            }),
+            Spot::Own(n, lane) => {
+                let at = (first + shape.heads + n) as usize;
+                let value = lane_of(shape.width, cells.inventory[at], lane);
+                Ok(Number {
+                    value,
+                    spilled: false,
+                })
+            }
+            Spot::Over(n, lane) => {
+                let from = cells.inventory[first as usize];
+                if cells.summary.spill_len.saturating_sub(from) <= n {
+                    return Err(Refusal::CellsUnlawful);
+                }
+                let value = lane_of(shape.width, cells.spill[(from + n) as usize], lane);
+                Ok(Number {
+                    value,
+                    spilled: true,
+                })
+            }
+        }
+    }
 }
 
 // What is decoded says the mark too.
@@ -246,7 +206,7 @@ fn mark_by(decoded: Decoded) -> Mark
     }
 }
 
-// Number i of a U16 entry, whose cells from `first` on hold its numbers.
+// Number i of a U16 entry, whose cells from `first` on hold its numbers: by places, as the cells' bound is.
 fn quarter_at(inventory: &[u64], first: u64, i: u64) -> u64
     requires { first + i / 4 < length inventory.now }
     ensures { result ≡ lane_of 16 (get_or inventory.now (first + i / 4) 0) (i % 4) }
@@ -254,34 +214,73 @@ fn quarter_at(inventory: &[u64], first: u64, i: u64) -> u64
     lane_of(16, inventory[(first + i / 4) as usize], i % 4)
 }
 
-// Steps 2 to 6 for a caller that asks for the mark alone. Nearly every entry is U16, and its numbers all stand in its own
-// cells: they are read without the general shape. Summary and cells in one struct would have to be stored for this call: that
-// costs a rising jump 1.6 ns and a dwell 5.
-pub fn mark_of(
-    summary: Summary,
-    inventory: &[u64],
-    spill: &[u64],
-    rank: u64,
-) -> Result<Mark, Refusal>
-    requires { Readable summary inventory.now spill.now rank }
-    ensures { outcome result ≡ mark_of_rank summary inventory.now spill.now rank }
-{
-    let plan = summary.plan;
-    let l = plan.log2_ones_per_inventory;
-    let s = plan.log2_ones_per_sub16;
-    let cell = first_cell(plan, rank >> l);
-    let start = inventory[cell as usize];
-    let SpanType::U16 = kind_of(start) else {
-        return Ok(mark_by(decode(summary, inventory, spill, rank)?));
-    };
-    let subrank = low_bits(rank, l as u64);
-    let mark = start + quarter_at(inventory, cell + 1, subrank >> s);
-    if plan.len <= mark {
-        return Err(Refusal::CellsUnlawful);
+impl<'a> Cells<'a> {
+    fn open(self, entry: u64) -> OpenEntry<'a>
+        requires { EntryLent self.summary self.inventory.now entry }
+        ensures { (result.cells ≡ self.entry) × (result.head ≡ head_of self.entry.summary self.entry.inventory.now entry) }
+    {
+        let plan = self.summary.plan;
+        let cell = first_cell(plan, entry);
+        let first = self.inventory[cell as usize];
+        let kind = kind_of(first);
+        let start = start_of(kind, first);
+        let head = Head {
+            entry,
+            cell,
+            kind,
+            start,
+        };
+        OpenEntry { cells: self, head }
     }
-    Ok(Mark {
-        at: mark,
-        residual: low_bits(subrank, s as u64),
-        exact: false,
-    })
+
+    pub(crate) fn decode(self, rank: u64) -> Result<Decoded, Refusal>
+        requires { rank < N self.summary.plan }
+        ensures { outcome result ≡ decode_of self.entry.summary self.entry.inventory.now self.entry.spill.now rank }
+    {
+        let plan = self.summary.plan;
+        let entry = self.open(rank >> plan.log2_ones_per_inventory);
+        let log2_quantum = entry.log2_quantum()?;
+        let subrank = low_bits(rank, plan.log2_ones_per_inventory as u64);
+        let number = entry.number(subrank >> log2_quantum)?;
+        let head = entry.head;
+        let base = shape_of(head.kind, head.start).base;
+        if plan.len.saturating_sub(base) <= number.value {
+            return Err(Refusal::CellsUnlawful);
+        }
+        let residual = low_bits(subrank, log2_quantum as u64);
+        Ok(Decoded {
+            head,
+            log2_quantum,
+            mark: base + number.value,
+            residual,
+            spilled: number.spilled,
+        })
+    }
+
+    // Steps 2 to 6 for a caller that asks for the mark alone. Nearly every entry is U16, and its numbers all stand in its own
+    // cells: they are read without the general shape. By `decode` alone a jump takes half as long again.
+    #[inline(always)]
+    pub fn mark_of(self, rank: u64) -> Result<Mark, Refusal>
+        requires { rank < N self.summary.plan }
+        ensures { outcome result ≡ mark_of_rank self.entry.summary self.entry.inventory.now self.entry.spill.now rank }
+    {
+        let plan = self.summary.plan;
+        let l = plan.log2_ones_per_inventory;
+        let s = plan.log2_ones_per_sub16;
+        let cell = first_cell(plan, rank >> l);
+        let start = self.inventory[cell as usize];
+        let SpanType::U16 = kind_of(start) else {
+            return Ok(mark_by(self.decode(rank)?));
+        };
+        let subrank = low_bits(rank, l as u64);
+        let mark = start + quarter_at(self.inventory, cell + 1, subrank >> s);
+        if plan.len <= mark {
+            return Err(Refusal::CellsUnlawful);
+        }
+        Ok(Mark {
+            at: mark,
+            residual: low_bits(subrank, s as u64),
+            exact: false,
+        })
+    }
 }

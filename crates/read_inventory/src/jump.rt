@@ -3,15 +3,17 @@ ghost use Rattle.std.specs.Prelude.{◌≡◌, ◌+◌, ◌-◌, ◌^◌, ◌≤
 ghost use Rattle.rank_sel.specs.Numbers.{ceil_div};
 ghost use Rattle.rank_sel.specs.Outcome.{or_refuse, outcome};
 ghost use Rattle.rank_sel.specs.Seek.{seek};
-ghost use Rattle.bit_record.specs.Record.{Admitted, selected};
+ghost use Rattle.bit_record.specs.Record.{selected};
 ghost use Rattle.bit_record.specs.Selects.{selects};
+ghost use Rattle.spacing.specs.Spacing.{N};
 ghost use Rattle.inventory.specs.Index.{ranks_of};
 ghost use Rattle.inventory.specs.Shape.{spilled_by};
 ghost use Rattle.read_inventory.specs.Jump.{PartIn, PointsAt, address_of, cells_of, dwell_by, dwell_of, hint_of, or_empty, select_of, store_of, stored, subinventory_of};
-ghost use Rattle.read_inventory.specs.Read.{finish as finish_as};
+ghost use Rattle.read_inventory.specs.Read.{finish as finish_as, position_of};
 ghost use Rattle.read_inventory.specs.Steps.{Countable};
 
-use crate::decode::{Decoded, Hint, Mark, decode, mark_of};
+use crate::decode::{Decoded, Hint, Mark};
+use crate::index::Index;
 use crate::tests::{test_call, test_dwell};
 use bit_record::{Record, is_selected, sample_at};
 use inventory::{Summary, entry_ranks, spilled_by};
@@ -19,6 +21,7 @@ use rank_sel::{Refusal, ceil_shift, pow2};
 use spacing::Parameters;
 
 // Step 7. A selected mark with none to pass is found by its one bit, before any word is counted.
+#[inline(always)]
 fn seek_mark(bits: &Record<'_>, mark: u64, residual: u64) -> Result<u64, Refusal>
     requires { mark < bits.now.len }
     ensures { outcome result ≡ or_refuse 10 (seek (selects bits.now) (bits.now.len - mark) mark residual) }
@@ -32,16 +35,29 @@ fn seek_mark(bits: &Record<'_>, mark: u64, residual: u64) -> Result<u64, Refusal
     }
 }
 
-// The position that a mark leads to. A function of the mark, not of the rank: with the summary and the cells left to
-// the caller, no call has to copy them. The record is made where a seek needs it: an exact mark needs none.
-fn finish(words: &[u64], plan: Parameters, mark: Mark) -> Result<u64, Refusal>
-    requires { Admitted words.now plan.len × (mark.at < plan.len) }
-    ensures { outcome result ≡ finish_as (selected plan.polarity words.now plan.len) plan.len mark }
-{
-    if mark.exact {
-        return Ok(mark.at);
+impl Index<'_> {
+    // The position that a mark leads to. The record is made where a seek needs it: an exact mark needs none.
+    #[inline(always)]
+    fn finish(self, mark: Mark) -> Result<u64, Refusal>
+        requires { mark.at < self.cells.summary.plan.len }
+        ensures { outcome result ≡ finish_as (selected self.entry.cells.summary.plan.polarity self.entry.words.now self.entry.cells.summary.plan.len) self.entry.cells.summary.plan.len mark }
+    {
+        if mark.exact {
+            return Ok(mark.at);
+        }
+        let record = self.cells.summary.plan.record(self.words);
+        seek_mark(&record, mark.at, mark.residual)
     }
-    seek_mark(&plan.record(words), mark.at, mark.residual)
+
+    // A rank's position.
+    #[inline(always)]
+    fn position(self, rank: u64) -> Result<u64, Refusal>
+        requires { rank < N self.cells.summary.plan }
+        ensures { outcome result ≡ position_of self.entry.words.now self.entry.cells.summary self.entry.cells.inventory.now self.entry.cells.spill.now rank }
+    {
+        let mark = self.cells.mark_of(rank)?;
+        self.finish(mark)
+    }
 }
 
 // Jump: the sample number of a rank's position.
@@ -54,10 +70,9 @@ pub fn select(
 ) -> Result<u64, Refusal>
     ensures { outcome result ≡ select_of words.now summary inventory.now spill.now rank }
 {
-    test_call(words, summary, inventory, spill, rank)?;
-    let mark = mark_of(summary, inventory, spill, rank)?;
-    let position = finish(words, summary.plan, mark)?;
-    Ok(sample_at(summary.origin, position))
+    let index = test_call(words, summary, inventory, spill, rank)?;
+    let position = index.position(rank)?;
+    Ok(sample_at(index.cells.summary.origin, position))
 }
 
 // Hint: the sample number of a rank's mark, and the mark's rank. It looks for no bit, so it can answer where jump says 10.
@@ -70,10 +85,10 @@ pub fn hint(
 ) -> Result<Hint, Refusal>
     ensures { outcome result ≡ hint_of words.now summary inventory.now spill.now rank }
 {
-    test_call(words, summary, inventory, spill, rank)?;
-    let mark = mark_of(summary, inventory, spill, rank)?;
+    let index = test_call(words, summary, inventory, spill, rank)?;
+    let mark = index.cells.mark_of(rank)?;
     Ok(Hint {
-        mark: sample_at(summary.origin, mark.at),
+        mark: sample_at(index.cells.summary.origin, mark.at),
         rank: rank - mark.residual,
     })
 }
@@ -108,15 +123,17 @@ pub fn subinventory_part(
 ) -> Result<CellPart, Refusal>
     ensures { (stored result ≡ store_of words.now summary inventory.now spill.now rank) × PartIn inventory.now spill.now (or_empty (stored result)) }
 {
-    test_call(words, summary, inventory, spill, rank)?; // as hint does
-    let decoded = decode(summary, inventory, spill, rank)?;
+    let index = test_call(words, summary, inventory, spill, rank)?; // as hint does
+    let cells = index.cells;
+    let plan = cells.summary.plan;
+    let decoded = cells.decode(rank)?;
     let own = decoded.head.cell + 1;
     if decoded.spilled {
-        let from = inventory[own as usize];
-        let n = spilled_at(summary.plan, decoded).min(summary.spill_len - from);
+        let from = cells.inventory[own as usize];
+        let n = spilled_at(plan, decoded).min(cells.summary.spill_len - from);
         return Ok(CellPart::Spill(from, n));
     }
-    Ok(CellPart::Inventory(own, pow2(summary.plan.log2_words_per_subinventory)))
+    Ok(CellPart::Inventory(own, pow2(plan.log2_words_per_subinventory)))
 }
 
 // The n cells from `first` on, by number: the contract says where they stand.
@@ -167,11 +184,8 @@ pub fn dwell(
 ) -> Result<u64, Refusal>
     ensures { outcome result ≡ dwell_of words.now summary inventory.now spill.now a b }
 {
-    test_dwell(words, summary, inventory, spill, a, b)?;
-    let plan = summary.plan;
-    let from = mark_of(summary, inventory, spill, a)?;
-    let p = finish(words, plan, from)?;
-    let to = mark_of(summary, inventory, spill, b)?;
-    let o = finish(words, plan, to)?;
+    let index = test_dwell(words, summary, inventory, spill, a, b)?;
+    let p = index.position(a)?;
+    let o = index.position(b)?;
     dwell_by(p, o)
 }

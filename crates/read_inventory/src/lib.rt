@@ -2,9 +2,11 @@
 #![tactic(auto)]
 
 mod decode;
+mod index;
 mod jump;
 mod tests;
 
-pub use decode::{Hint, Mark, mark_of};
+pub use decode::{Hint, Mark};
+pub use index::{Cells, Index};
 pub use jump::{CellPart, dwell, hint, select, subinventory, subinventory_part};
 pub use tests::test_index;

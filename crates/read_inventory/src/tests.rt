@@ -2,34 +2,34 @@
 ghost use Rattle.std.specs.Prelude.{◌++◌, ◌≡◌};
 ghost use Rattle.rank_sel.specs.Outcome.{outcome, test_by};
 ghost use Rattle.spacing.specs.Spacing.{N};
+ghost use Rattle.read_inventory.specs.Tested.{Tested};
 ghost use Rattle.read_inventory.specs.Tests.{of_index, of_rank, of_ranks};
 
+use crate::index::{Cells, Index};
 use bit_record::test_record;
-use inventory::{Summary, test_lent, test_summary};
+use inventory::{Summary, test_cells, test_summary};
 use rank_sel::Refusal;
 
-// 1, 14, 2, 9, 6, 7: what every reader is held to. Words, summary, inventory and spill stay apart in each: line at `mark_of`.
-pub fn test_index(
-    words: &[u64],
+// 1, 14, 2, 9, 6, 7: what every reader is held to. The four as they are handed in become an `Index`, which goes by value: what
+// hands it out is inlined.
+#[inline(always)]
+pub fn test_index<'a>(
+    words: &'a [u64],
     summary: Summary,
-    inventory: &[u64],
-    spill: &[u64],
-) -> Result<(), Refusal>
-    ensures { outcome result ≡ test_by (of_index words.now summary inventory.now spill.now) }
+    inventory: &'a [u64],
+    spill: &'a [u64],
+) -> Result<Index<'a>, Refusal>
+    ensures { Tested (of_index words.now summary inventory.now spill.now) words.now summary inventory.now spill.now result }
 {
     test_record(words, summary.plan.len, summary.origin)?;
     test_summary(summary)?;
-    // Not by inventory's `test_cells`: line there.
-    test_lent(
-        inventory.len() as u64,
-        summary.inventory_len,
-        Refusal::InventoryTooShort,
-    )?;
-    test_lent(
-        spill.len() as u64,
-        summary.spill_len,
-        Refusal::SpillTooShort,
-    )
+    test_cells(summary, inventory, spill)?;
+    let cells = Cells {
+        summary,
+        inventory,
+        spill,
+    };
+    Ok(Index { words, cells })
 }
 
 // Refusal 8.
@@ -43,21 +43,22 @@ fn test_rank(num: u64, rank: u64) -> Result<(), Refusal>
 }
 
 // An index and a rank: jump, hint and store.
-pub(crate) fn test_call(
-    words: &[u64],
+#[inline(always)]
+pub(crate) fn test_call<'a>(
+    words: &'a [u64],
     summary: Summary,
-    inventory: &[u64],
-    spill: &[u64],
+    inventory: &'a [u64],
+    spill: &'a [u64],
     rank: u64,
-) -> Result<(), Refusal>
-    ensures { outcome result ≡ test_by (of_index words.now summary inventory.now spill.now ++ of_rank (N summary.plan) rank) }
+) -> Result<Index<'a>, Refusal>
+    ensures { Tested (of_index words.now summary inventory.now spill.now ++ of_rank (N summary.plan) rank) words.now summary inventory.now spill.now result }
 {
-    test_index(words, summary, inventory, spill)?;
+    let index = test_index(words, summary, inventory, spill)?;
     // The form that document 01 names for this place.
     let Ok(()) = test_rank(summary.plan.num, rank) else {
         return Err(Refusal::RankTooLarge);
     };
-    Ok(())
+    Ok(index)
 }
 
 // 8 for both ranks of a dwell, then 11.
@@ -72,17 +73,19 @@ fn test_ranks(num: u64, a: u64, b: u64) -> Result<(), Refusal>
     Ok(())
 }
 
-// An index and two ranks.
-pub(crate) fn test_dwell(
-    words: &[u64],
+// An index and the two ranks of a dwell, as they are handed in.
+#[inline(always)]
+pub(crate) fn test_dwell<'a>(
+    words: &'a [u64],
     summary: Summary,
-    inventory: &[u64],
-    spill: &[u64],
+    inventory: &'a [u64],
+    spill: &'a [u64],
     a: u64,
     b: u64,
-) -> Result<(), Refusal>
-    ensures { outcome result ≡ test_by (of_index words.now summary inventory.now spill.now ++ of_ranks (N summary.plan) a b) }
+) -> Result<Index<'a>, Refusal>
+    ensures { Tested (of_index words.now summary inventory.now spill.now ++ of_ranks (N summary.plan) a b) words.now summary inventory.now spill.now result }
 {
-    test_index(words, summary, inventory, spill)?;
-    test_ranks(summary.plan.num, a, b)
+    let index = test_index(words, summary, inventory, spill)?;
+    test_ranks(summary.plan.num, a, b)?;
+    Ok(index)
 }

@@ -29,6 +29,7 @@ fn show(rt: &impl Print, told: Result<u64, Refusal>) -> io::Result<()> {
     end(rt, told, |number| println!(rt; "{number}"))
 }
 
+// Words, length and polarity stay three, here, in `show_plan` and in `show_index`: the library takes them so.
 fn show_count(
     rt: &impl Print,
     name: &str,

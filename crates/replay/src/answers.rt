@@ -43,7 +43,8 @@ fn selects_alike(
         .unwrap_or(pairs.len())
 }
 
-// The build into cells that are blank before.
+// The build into cells that are blank before. The two lent slices stay two, here and below: no proof is made of a struct of `&mut`s
+// after one of them was lent.
 fn build_blank(
     words: &[u64],
     question: Question,

@@ -21,7 +21,7 @@ pub(crate) fn alike(a: &[u64], b: &[u64]) -> usize
         .unwrap_or(a.len().min(b.len()))
 }
 
-// Up to where the cells from `from` on are as they were filled.
+// Up to where the cells from `from` on are as they were filled: a place, as the answer is one.
 pub(crate) fn blank_from(cells: &[u64], from: usize) -> usize
     ensures { result ≡ alike_from from cells.now (blanks (length cells.now)) }
 {

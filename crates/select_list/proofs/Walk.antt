@@ -20,6 +20,7 @@ use Rattle.rank_sel.specs.declared.Refusal.{Refusal}
 use Rattle.rank_sel.proofs.Outcome.{answer_is, then_answer}
 use Rattle.rank_sel.proofs.Seek.{answer_sought}
 use Rattle.bit_record.specs.Record.{selected, sample_at}
+use Rattle.spacing.specs.Spacing.{N}
 use Rattle.inventory.specs.declared.summary.Summary.{Summary}
 use Rattle.read_inventory.specs.Read.{Mark, mark_of_rank}
 use Rattle.read_inventory.proofs.Answers.{mark_low}
@@ -173,7 +174,7 @@ module _ (ws : List ℕ) (t : Summary) (inv sp ranks : List ℕ) where
           pub stands_low : y.position < t.plan.len
           stands_low = kept.1
 
-          pub stands_more : Walkable t inv sp ranks → (l' : List ℕ) → l' ≡ set l i (sample y.position)
+          pub stands_more : Walkable (N t.plan) ranks → (l' : List ℕ) → l' ≡ set l i (sample y.position)
               → Stands l' y.hand (total + y.words) (i + 1)
           stands_more k l' el = record {
             positions = s.positions ++ (y.position ∷ []);

@@ -5,9 +5,7 @@ use Rattle.std.proofs.Math.Option.{Option, none, some}
 use Rattle.rank_sel.specs.Outcome.{Outcome, answer, and_then, outcome}
 use Rattle.rank_sel.specs.declared.Refusal.{Refusal}
 use Rattle.select_in_word.specs.Holds.{Holds}
-use Rattle.inventory.specs.declared.summary.Summary.{Summary}
 use Rattle.read_inventory.specs.Read.{Mark}
-use Rattle.read_inventory.specs.Tests.{Readable}
 use Rattle.select_list.specs.List.{Walk, NeverFalls, Listed, samples_from, total_of, places_after}
 use Rattle.select_list.specs.Step.{Reached, Start, start_of, in_hand, Step, read_from}
 use Rattle.select_list.specs.declared.step.Advance.{Advance}
@@ -63,9 +61,9 @@ Reads f len r s x =
     (last : Option Reached) → s.fresh ≡ not (in_hand last s.from) → Advances f len r (read_from f len last r (start_as s)) x
 
 -- ---- the walk
--- each rank can be read, and none is below the one before it
-pub record Walkable (t : Summary) (inv sp ranks : List ℕ) : Type 0 where
-  pub readable : (i : ℕ) → i < length ranks → Readable t inv sp (get_or ranks i 0)
+-- each rank is below N, and none below the one before it
+pub record Walkable (num : ℕ) (ranks : List ℕ) : Type 0 where
+  pub below : (i : ℕ) → i < length ranks → get_or ranks i 0 < num
   pub rising : NeverFalls ranks
 
 -- samples written over what was there, as far as there is room

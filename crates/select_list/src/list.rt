@@ -1,7 +1,7 @@
 // The list: the sample numbers of all its positions, or none.
 ghost use Rattle.std.specs.Prelude.{◌≡◌, ◌≤◌, length, set};
 ghost use Rattle.rank_sel.specs.Outcome.{outcome};
-ghost use Rattle.bit_record.specs.Record.{AdmittedFrom};
+ghost use Rattle.spacing.specs.Spacing.{N};
 ghost use Rattle.select_list.specs.Hand.{Placed, Walkable, Wrote};
 ghost use Rattle.select_list.specs.List.{list_of, places_after, start, total_of, walk, walk_of};
 
@@ -10,6 +10,7 @@ use crate::tests::test_call;
 use bit_record::sample_at;
 use inventory::Summary;
 use rank_sel::Refusal;
+use read_inventory::Index;
 
 // The samples that are held aside until the last is known: as many as the screen asks for, and some.
 const HELD: usize = 64;
@@ -24,24 +25,18 @@ fn put(places: &mut [u64], i: usize, sample: u64)
     }
 }
 
-// Walks a list, and writes the sample of each position as it is found, as far as there is room. The four of an index stay apart,
-// as `mark_of` has them.
-fn walk_into(
-    words: &[u64],
-    summary: Summary,
-    inventory: &[u64],
-    spill: &[u64],
-    ranks: &[u64],
-    places: &mut [u64],
-) -> Result<u64, Refusal>
-    requires { AdmittedFrom words.now summary.plan.len summary.origin × Walkable summary inventory.now spill.now ranks.now }
-    ensures { Wrote summary.origin (walk words.now summary inventory.now spill.now start ranks.now) places.old places.new result }
+// Walks a list, and writes the sample of each position as it is found, as far as there is room. Ranks and places stay two, here and
+// below: the second walk has the same ranks and other places.
+fn walk_into(index: Index<'_>, ranks: &[u64], places: &mut [u64]) -> Result<u64, Refusal>
+    requires { Walkable (N index.cells.summary.plan) ranks.now }
+    ensures { Wrote index.entry.cells.summary.origin (walk index.entry.words.now index.entry.cells.summary index.entry.cells.inventory.now index.entry.cells.spill.now start ranks.now) places.old places.new result }
 {
+    let origin = index.cells.summary.origin;
     let mut hand = None;
     let mut total = 0;
     for (i, rank) in ranks.iter().enumerate() {
-        let step = step_to(words, summary, inventory, spill, hand, *rank)?;
-        put(places, i, sample_at(summary.origin, step.position));
+        let step = step_to(index, hand, *rank)?;
+        put(places, i, sample_at(origin, step.position));
         total += step.words;
         hand = step.hand;
     }
@@ -50,22 +45,15 @@ fn walk_into(
 
 // A list is walked without writing into its places, which are written once its last position is known: from those held
 // aside, or, where they are more, by a second walk.
-fn place_all(
-    words: &[u64],
-    summary: Summary,
-    inventory: &[u64],
-    spill: &[u64],
-    ranks: &[u64],
-    places: &mut [u64],
-) -> Result<u64, Refusal>
-    requires { AdmittedFrom words.now summary.plan.len summary.origin × Walkable summary inventory.now spill.now ranks.now × (length ranks.now ≤ length places.old) }
-    ensures { Placed (walk_of words.now summary inventory.now spill.now ranks.now) places.old places.new result }
+fn place_all(index: Index<'_>, ranks: &[u64], places: &mut [u64]) -> Result<u64, Refusal>
+    requires { Walkable (N index.cells.summary.plan) ranks.now × (length ranks.now ≤ length places.old) }
+    ensures { Placed (walk_of index.entry.words.now index.entry.cells.summary index.entry.cells.inventory.now index.entry.cells.spill.now ranks.now) places.old places.new result }
 {
     let mut held = [0u64; HELD];
-    let total = walk_into(words, summary, inventory, spill, ranks, &mut held)?;
+    let total = walk_into(index, ranks, &mut held)?;
     let n = ranks.len();
     if HELD < n {
-        return walk_into(words, summary, inventory, spill, ranks, places);
+        return walk_into(index, ranks, places);
     }
     places[..n].copy_from_slice(&held[..n]);
     Ok(total)
@@ -83,6 +71,6 @@ pub fn select_list(
     ensures total { outcome result ≡ total_of (list_of words.now summary inventory.now spill.now ranks.now (length places.old)) }
     ensures places { places.new ≡ places_after (list_of words.now summary inventory.now spill.now ranks.now (length places.old)) places.old }
 {
-    test_call(words, summary, inventory, spill, ranks, places.len())?;
-    place_all(words, summary, inventory, spill, ranks, places)
+    let index = test_call(words, summary, inventory, spill, ranks, places.len())?;
+    place_all(index, ranks, places)
 }

@@ -1,15 +1,14 @@
 // One rank of a list: its mark, and a reading that goes on from the later of the mark and the last bit reached.
 ghost use Rattle.std.specs.Prelude.{◌≡◌, ◌<◌};
-ghost use Rattle.bit_record.specs.Record.{Admitted, selected};
+ghost use Rattle.bit_record.specs.Record.{selected};
 ghost use Rattle.bit_record.specs.Selects.{selects};
-ghost use Rattle.read_inventory.specs.Tests.{Readable};
+ghost use Rattle.spacing.specs.Spacing.{N};
 ghost use Rattle.select_list.specs.Hand.{Advances, Begun, HandIn, Reads, Starts, last_of};
 ghost use Rattle.select_list.specs.Step.{step_of};
 
 use bit_record::{Record, selected_word};
-use inventory::Summary;
 use rank_sel::Refusal;
-use read_inventory::{Mark, mark_of};
+use read_inventory::{Index, Mark};
 
 // The last bit reached by reading: its place, the list's rank that reached it, and its word.
 #[derive(Clone, Copy)]
@@ -86,18 +85,11 @@ fn read_from(bits: &Record<'_>, rank: u64, start: StartAt) -> Result<Advance, Re
 }
 
 // The record is made where a reading needs it: an exact mark needs none.
-pub(crate) fn step_to(
-    words: &[u64],
-    summary: Summary,
-    inventory: &[u64],
-    spill: &[u64],
-    hand: Option<Hand>,
-    rank: u64,
-) -> Result<Advance, Refusal>
-    requires { Admitted words.now summary.plan.len × Readable summary inventory.now spill.now rank × HandIn (selected summary.plan.polarity words.now summary.plan.len) summary.plan.len rank hand }
-    ensures { Advances (selected summary.plan.polarity words.now summary.plan.len) summary.plan.len rank (step_of words.now summary inventory.now spill.now (last_of hand) rank) result }
+pub(crate) fn step_to(index: Index<'_>, hand: Option<Hand>, rank: u64) -> Result<Advance, Refusal>
+    requires { (rank < N index.cells.summary.plan) × HandIn (selected index.cells.summary.plan.polarity index.words.now index.cells.summary.plan.len) index.cells.summary.plan.len rank hand }
+    ensures { Advances (selected index.entry.cells.summary.plan.polarity index.entry.words.now index.entry.cells.summary.plan.len) index.entry.cells.summary.plan.len rank (step_of index.entry.words.now index.entry.cells.summary index.entry.cells.inventory.now index.entry.cells.spill.now (last_of hand) rank) result }
 {
-    let mark = mark_of(summary, inventory, spill, rank)?;
+    let mark = index.cells.mark_of(rank)?;
     if mark.exact {
         return Ok(Advance {
             position: mark.at,
@@ -105,7 +97,7 @@ pub(crate) fn step_to(
             hand,
         });
     }
-    let record = summary.plan.record(words);
+    let record = index.cells.summary.plan.record(index.words);
     let start = start_of(&record, hand, rank, mark);
     read_from(&record, rank, start)
 }

@@ -2,12 +2,13 @@
 ghost use Rattle.std.specs.Prelude.{false, ◌++◌, ◌≡◌};
 ghost use Rattle.rank_sel.specs.Outcome.{outcome, test_by};
 ghost use Rattle.spacing.specs.Spacing.{N};
+ghost use Rattle.read_inventory.specs.Tested.{Tested};
 ghost use Rattle.read_inventory.specs.Tests.{of_index};
 ghost use Rattle.select_list.specs.List.{any_too_large, falls, of_list};
 
 use inventory::Summary;
 use rank_sel::Refusal;
-use read_inventory::test_index;
+use read_inventory::{Index, test_index};
 
 // Whether a rank is below the one before it, anywhere.
 fn falls_somewhere(ranks: &[u64]) -> bool
@@ -44,16 +45,18 @@ fn test_list(num: u64, ranks: &[u64], lent: usize) -> Result<(), Refusal>
 }
 
 // An index, a list of ranks, and so many places.
-pub(crate) fn test_call(
-    words: &[u64],
+#[inline(always)]
+pub(crate) fn test_call<'a>(
+    words: &'a [u64],
     summary: Summary,
-    inventory: &[u64],
-    spill: &[u64],
+    inventory: &'a [u64],
+    spill: &'a [u64],
     ranks: &[u64],
     lent: usize,
-) -> Result<(), Refusal>
-    ensures { outcome result ≡ test_by (of_index words.now summary inventory.now spill.now ++ of_list (N summary.plan) ranks.now lent) }
+) -> Result<Index<'a>, Refusal>
+    ensures { Tested (of_index words.now summary inventory.now spill.now ++ of_list (N summary.plan) ranks.now lent) words.now summary inventory.now spill.now result }
 {
-    test_index(words, summary, inventory, spill)?;
-    test_list(summary.plan.num, ranks, lent)
+    let index = test_index(words, summary, inventory, spill)?;
+    test_list(summary.plan.num, ranks, lent)?;
+    Ok(index)
 }

@@ -1,8 +1,9 @@
 -- Tests of a float, and its cut to a u64, by the fields of its bits: the sign, the exponent e, the digits t.
 use Rattle.std.proofs.Common.{◌≡◌, ℕ, zero, suc, ◌+◌, ◌-◌, ◌*◌, ◌/◌, ◌%◌, ◌^◌, ◌<◌, ◌≤◌, min, Bool, true, false, cond, not, T, eqb, leb, pos, sym, refl, ◌∙◌, subst, le_trans, lt_of_lt_of_le, le-add_right, mod-lt, mod-eq_of_lt, mul_assoc, mul-le-mul, mul-pos, le-div_iff_mul-le, sub-le, arith, pow_pos, pow_mono, pow-add, shl_exact, ltb-false, ltb-true, lt-ltb, ne_eqb, le-leb}
+use Rattle.std.specs.Float.{float_is_finite}
 use native.Mathlib.Nat.{zero-lt-suc, div-eq_of_lt, min-eq_left, min-eq_right}
 use lib.Pow.{shr_le}
-use lib.Ieee.{Float, nan, inf, fin, binary64, lt, ne, fits, is_nan, odd, of_fields, of_bits, to_bits, to_unsigned, up, down}
+use lib.Ieee.{Float, nan, inf, fin, binary64, lt, fits, is_nan, odd, of_fields, of_bits, to_bits, to_unsigned, up, down}
 use lib.Ieee.Bits.{of_bits-to_bits}
 use lib.Ieee.Exact.{HasValue, odd_sign}
 use lib.Ieee.Fits.{up_pos, down_pos}
@@ -10,12 +11,15 @@ use lib.Ieee.Nearest.{div_same}
 use lib.Ieee.Positive.{positive}
 use borrow.Author.Tests.{lt-leb}
 
--- what does not differ from itself is no NaN
-pub is_number : (x : Float) → ne x x ≡ false → T (not (is_nan x))
-unfolding ne is_nan
-is_number nan h = cc
-is_number (inf s) h = tt
-is_number (fin s m e) h = tt
+-- a NaN is cut to 0
+pub cut_nan : (x : Float) → is_nan x ≡ true → 0 ≡ to_unsigned 64 x
+unfolding is_nan to_unsigned
+cut_nan nan h = refl
+cut_nan (inf s) h = cc
+cut_nan (fin s m e) h = cc
+
+pub is_number : (x : Float) → is_nan x ≡ false → T (not (is_nan x))
+is_number x h = rw h tt
 
 -- x is what the fields of its bits stand for
 module _ (x : Float) (fit : fits binary64 x ≡ true) where
@@ -102,9 +106,9 @@ cut_top (suc j) t h =
     by_exponent (λ x. T (not (is_nan x)) → 2 ^ 64 - 1 ≡ to_unsigned 64 x) false j t (λ n. refl) (λ n. absurd n)
     (λ n. sym (cut_units false (2 ^ 52 + t) j ∙ min-eq_right (le_trans (sub-le (2 ^ 64) 1) l)))
 
--- above 0: then finite is below the infinity
-pub above_zero : (x : Float) → lt (fin false 0 (pos 0)) x ≡ true → lt x (inf false) ≡ positive x
-unfolding lt
+-- above 0: then what is finite is positive
+pub above_zero : (x : Float) → lt (fin false 0 (pos 0)) x ≡ true → float_is_finite x ≡ positive x
+unfolding lt float_is_finite
 above_zero nan a = cc
 above_zero (inf true) a = cc
 above_zero (inf false) a = refl

@@ -8,7 +8,7 @@ ghost use Rattle.spacing.specs.Spacing.{max_log2_words as largest_log2_words, ov
 pub fn is_positive(x: f64) -> bool
     ensures { result ≡ positive x }
 {
-    if x > 0.0 { x < 1.0 / 0.0 } else { false }
+    x > 0.0 && x.is_finite()
 }
 
 // The bits of an f64: the sign, 11 bits of exponent, and 52 digits below a leading one that is not stored.
@@ -17,12 +17,13 @@ const SIGN: u64 = 0x8000_0000_0000_0000;
 // 2^52: the exponent starts where the leading one would stand.
 const LEADING_ONE: u64 = 0x10_0000_0000_0000;
 
-// Rust's `x as u64`, worked out from the bits: toward zero, to the nearest end of the range, and 0 of a NaN.
+// Rust's `x as u64`, worked out from the bits, as document 01 names it: toward zero, to the nearest end of the range, and 0 of a
+// NaN.
 fn saturating_f64_to_u64(x: f64) -> u64
     ensures { result ≡ to_unsigned 64 x }
 {
     // No bits are defined of a NaN.
-    if x != x {
+    if x.is_nan() {
         return 0;
     }
     let bits = f64::to_bits(x);

@@ -1,23 +1,22 @@
 -- A summary with a polarity over 1 is turned down; else the entry's answer for the summary as read goes out by `give`.
 use mathlib.Core.Path.{refl, ap, ◌∙◌}
-use borrow.Author.Tests.{lt-ltb, le-ltb}
 use Rattle.inventory.specs.declared.summary.Summary.{Summary}
 use Rattle.read_inventory.specs.Jump.{select_of}
 use Rattle.edge_index_c.specs.Calls.{select_c}
 use Rattle.edge_index_c.proofs.Returns.{returned_as}
 use Rattle.edge_index_c.proofs.edge_index_select.Goals as goal
 
-pub returns-then-summary-gt1 : goal.returns-then-summary-gt1
+pub returns-in_default : goal.returns-in_default
 unfolding select_c
-returns-then-summary-gt1 c =
-    rw (lt-ltb _ _ c.if-summary-gt1.true) (record { status = refl; out = refl })
+returns-in_default c =
+    rw (c.in_default.ensures) (record { status = refl; out = refl })
 
 pub returns : goal.returns
 unfolding select_c
 returns c =
     let a = c.args in
-    rw (le-ltb _ _ c.if-summary-gt1.false)
+    rw (c.in-Some.ensures.0)
     (returned_as
     (c.select.ensures ∙ ap (λ (t : Summary). select_of a.words.now t a.inventory.now a.spill.now a.rank)
-    c.summary_at.ensures)
+    c.in-Some.ensures.1)
     c.give.ensures)

@@ -7,43 +7,39 @@ use Rattle.spacing.specs.Spacing.{N}
 use Rattle.read_inventory.specs.Jump.{hint_of}
 use Rattle.read_inventory.specs.Tests.{of_index, of_rank}
 use Rattle.read_inventory.proofs.Answers.{MarkRead, hint_by, hint_none, mark_below, passes_few}
-use Rattle.read_inventory.proofs.Passing.{Called, called_held, called_readable, hint_passed, refused_so}
-use Rattle.read_inventory.proofs.jump.hint.Goals.{In_ok-mark, In_ok-test_call}
+use Rattle.read_inventory.proofs.Passing.{Called, hint_passed, refused_so}
+use Rattle.read_inventory.proofs.jump.hint.Goals.{In_ok-index, In_ok-mark}
 use Rattle.read_inventory.proofs.jump.hint.Goals as goal
 
 -- the tests were passed
-module _ (c : In_ok-test_call) where
+module _ (c : In_ok-index) where
   called : let a = c.args in
-      Called a.words.now a.summary a.inventory.now a.spill.now a.rank
-  called = record { passed = c.in_ok-test_call.ensures }
+      Called a.words.now a.summary a.inventory.now a.spill.now a.rank c.in_ok-index.index
+  called = record { passed = c.in_ok-index.ensures.0; index = c.in_ok-index.ensures.1 }
 
 -- the mark is read
 module _ (c : In_ok-mark) where
-  read : let a = c.args in MarkRead a.summary a.inventory.now a.spill.now a.rank c.in_ok-mark.mark
+  read : let x = c.in_ok-index.index in MarkRead x.cells.summary x.cells.inventory.now x.cells.spill.now c.args.rank c.in_ok-mark.mark
   read = record { told = c.in_ok-mark.ensures }
 
-pub returns-in_err-test_call : goal.returns-in_err-test_call
+pub returns-in_err-index : goal.returns-in_err-index
 unfolding hint_of
-returns-in_err-test_call c =
+returns-in_err-index c =
     let a = c.args in
     tests_handed_on _ _ c.from_residual.ensures (of_index a.words.now a.summary a.inventory.now a.spill.now ++ of_rank (N a.summary.plan) a.rank)
-    c.in_err-test_call.ensures _
-
-pub mark_of-requires : goal.mark_of-requires
-mark_of-requires c =
-    called_readable (called c)
+    c.in_err-index.ensures _
 
 pub returns-in_err-mark : goal.returns-in_err-mark
 returns-in_err-mark c =
     refused_so _ _ c.from_residual-in_err-mark.ensures _
-    (hint_none _ _ _ _ _ c.in_err-mark.ensures ∙ hint_passed (called (goal.at.returns-in_err-mark c).In_ok-test_call))
+    (hint_none _ _ _ _ _ c.in_err-mark.ensures ∙ hint_passed (called (goal.at.returns-in_err-mark c).In_ok-index))
 
 pub sample_at-requires : goal.sample_at-requires
 sample_at-requires c =
     omega (
       arith,
       mark_below (read (goal.at.sample_at-requires c).In_ok-mark),
-      (called_held (called (goal.at.sample_at-requires c).In_ok-test_call)).from.numbered,
+      c.in_ok-index.index.from.numbered,
     )
 
 pub overflow_sub-result : goal.overflow_sub-result
@@ -54,4 +50,4 @@ pub returns : goal.returns
 returns c =
     rw c.sample_at.ensures
     (hint_by (read (goal.at.returns c).In_ok-mark)
-    ∙ hint_passed (called (goal.at.returns c).In_ok-test_call))
+    ∙ hint_passed (called (goal.at.returns c).In_ok-index))

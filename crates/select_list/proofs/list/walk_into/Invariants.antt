@@ -3,4 +3,4 @@ use Rattle.select_list.proofs.Walk.{Stands}
 use Rattle.select_list.proofs.list.walk_into.Given as goal
 
 abbrev pub invariant-loop-i : goal.invariant-loop-i
-invariant-loop-i l = Stands l.words l.summary l.inventory l.spill l.ranks l.initial.places l.places l.hand l.total l.i
+invariant-loop-i l = Stands l.index.words.now l.index.cells.summary l.index.cells.inventory.now l.index.cells.spill.now l.ranks l.initial.places l.places l.hand l.total l.i

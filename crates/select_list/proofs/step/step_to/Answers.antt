@@ -6,27 +6,27 @@ use Rattle.select_list.proofs.step.step_to.Goals as goal
 
 -- the mark is read
 module _ (c : In_ok-mark) where
-  read : let a = c.args in MarkRead a.summary a.inventory.now a.spill.now a.rank c.in_ok-mark.mark
+  read : let a = c.args in MarkRead a.index.cells.summary a.index.cells.inventory.now a.index.cells.spill.now a.rank c.in_ok-mark.mark
   read = record { told = c.in_ok-mark.ensures }
 
 pub returns-in_err-mark : goal.returns-in_err-mark
 returns-in_err-mark c =
     let a = c.args in
-    step_none a.words.now a.summary a.inventory.now a.spill.now a.rank a.hand _ _ c.from_residual.ensures c.in_err-mark.ensures
+    step_none a.index.words.now a.index.cells.summary a.index.cells.inventory.now a.index.cells.spill.now a.rank a.hand _ _ c.from_residual.ensures c.in_err-mark.ensures
 
 pub returns-then-mark : goal.returns-then-mark
 returns-then-mark c =
     let a = c.args in
-    step_exact a.words.now a.summary a.inventory.now a.spill.now a.rank a.hand _ (read (goal.at.returns-then-mark c).In_ok-mark)
-    c.if-mark.true c.requires.2
+    step_exact a.index.words.now a.index.cells.summary a.index.cells.inventory.now a.index.cells.spill.now a.rank a.hand _ (read (goal.at.returns-then-mark c).In_ok-mark)
+    c.if-mark.true c.requires.1
 
 pub start_of-start-requires : goal.start_of-start-requires
 start_of-start-requires c =
     let e = c.record-record.ensures in
-    rw (e.words, e.len, e.polarity) (c.requires.2, mark_below (read (goal.at.start_of-start-requires c).In_ok-mark))
+    rw (e.words, e.len, e.polarity) (c.requires.1, mark_below (read (goal.at.start_of-start-requires c).In_ok-mark))
 
 pub returns : goal.returns
 returns c =
     let a = c.args in
-    step_read a.words.now a.summary a.inventory.now a.spill.now a.rank a.hand _ (read (goal.at.returns c).In_ok-mark)
+    step_read a.index.words.now a.index.cells.summary a.index.cells.inventory.now a.index.cells.spill.now a.rank a.hand _ (read (goal.at.returns c).In_ok-mark)
     c.if-mark.false _ c.record-record.ensures c.start_of-start.result c.start_of-start.ensures c.read_from.result c.read_from.ensures

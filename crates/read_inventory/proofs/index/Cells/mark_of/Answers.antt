@@ -5,26 +5,28 @@ use native.Mathlib.Omega.{arith}
 use borrow.Author.Rules.{rules}
 use Rattle.read_inventory.specs.Read.{entry_of_rank}
 use Rattle.read_inventory.specs.Steps.{EntryLent}
+use Rattle.read_inventory.specs.Tests.{Readable}
 use Rattle.read_inventory.proofs.Decoding.{Quartered, entry_lent, quarter_in, quarter_fits, quarter_past, quarter_is, decoded_marks}
-use Rattle.read_inventory.proofs.Passing.{refused_so}
-use Rattle.read_inventory.proofs.decode.mark_of.Goals.{After-low_bits-subrank, After-plan-1}
-use Rattle.read_inventory.proofs.decode.mark_of.Goals as goal
+use Rattle.read_inventory.proofs.Passing.{readable_by, refused_so}
+use Rattle.read_inventory.proofs.index.Cells.mark_of.Goals.{After-low_bits-subrank, Start}
+use Rattle.read_inventory.proofs.index.Cells.mark_of.Goals as goal
 
-module _ (c : After-plan-1) where
-  lent :
+module _ (c : Start) where
+  read :
       let a = c.args in
-      EntryLent a.summary a.inventory.now (entry_of_rank a.summary a.rank)
-  lent =
-      let a = c.args in
-      entry_lent a.summary a.inventory.now a.spill.now a.rank c.requires
+      Readable a.self.summary a.self.inventory.now a.self.spill.now a.rank
+  read = readable_by _ _ _ c.args.self.legible c.args.rank c.requires
+
+  lent : EntryLent c.args.self.summary c.args.self.inventory.now (entry_of_rank c.args.self.summary c.args.rank)
+  lent = entry_lent _ _ _ c.args.rank read
 
 module _ (c : After-low_bits-subrank) where
   quartered :
       let a = c.args in
-      Quartered a.summary a.inventory.now a.spill.now a.rank c.first_cell-cell.result c.low_bits-subrank.result
+      Quartered a.self.summary a.self.inventory.now a.self.spill.now a.rank c.first_cell-cell.result c.low_bits-subrank.result
   quartered =
       record {
-        readable = c.requires;
+        readable = read (goal.at.After-low_bits-subrank c).Start;
         cell = c.first_cell-cell.ensures;
         kind = sym c.in-U16.is ∙ c.kind_of.ensures;
         subrank = c.low_bits-subrank.ensures;
@@ -32,15 +34,15 @@ module _ (c : After-low_bits-subrank) where
 
 pub first_cell-cell-requires : goal.first_cell-cell-requires
 first_cell-cell-requires c =
-    let l = lent c in search rules
+    let l = lent (goal.at.first_cell-cell-requires c).Start in search rules
 
-pub offset_bounds-inventory-cell : goal.offset_bounds-inventory-cell
-offset_bounds-inventory-cell c =
-    let l = lent (goal.at.offset_bounds-inventory-cell c).After-plan-1 in search rules
+pub offset_bounds-self-cell : goal.offset_bounds-self-cell
+offset_bounds-self-cell c =
+    let l = lent (goal.at.offset_bounds-self-cell c).Start in search rules
 
-pub bounds-inventory-cell : goal.bounds-inventory-cell
-bounds-inventory-cell c =
-    let l = lent (goal.at.bounds-inventory-cell c).After-plan-1 in
+pub bounds-self-cell : goal.bounds-self-cell
+bounds-self-cell c =
+    let l = lent (goal.at.bounds-self-cell c).Start in
     search rules
 
 pub returns-in_err-decode : goal.returns-in_err-decode
@@ -53,11 +55,11 @@ returns-in_default c =
 
 pub overflow_add-cell : goal.overflow_add-cell
 overflow_add-cell c =
-    record { fits = omega (arith, quarter_in (quartered c)) }
+    record { fits = omega (arith, quarter_in (quartered (goal.at.overflow_add-cell c).After-low_bits-subrank)) }
 
 pub quarter_at-requires : goal.quarter_at-requires
 quarter_at-requires c =
-    quarter_in (quartered c)
+    quarter_in (quartered (goal.at.quarter_at-requires c).After-low_bits-subrank)
 
 pub overflow_add-mark : goal.overflow_add-mark
 overflow_add-mark c =
