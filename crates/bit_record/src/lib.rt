@@ -23,7 +23,8 @@ pub enum Polarity {
 // The most that a length may be, and a length after an origin.
 const MAX_LEN: u64 = 0x3fff_ffff_ffff_ffff;
 
-// Whether a record from `origin` on passes the last sample number. The sum may pass 2^64: it is not reckoned.
+// Whether a record from `origin` on passes the last sample number. The sum may pass 2^64: it is not reckoned. That len has passed 1
+// is asked of it, as of a summary's test: a type of such a number would be no plainer.
 fn is_origin_too_large(origin: u64, len: u64) -> bool
     requires { len < 2 ^ 62 }
     ensures { result ≡ origin_too_large origin len }

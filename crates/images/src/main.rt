@@ -90,7 +90,7 @@ fn show_cut(rt: &impl Print, image: &[u8], n: usize) -> io::Result<()> {
     show_read(rt, first(image, n))
 }
 
-// Field `field`, the lowest byte first.
+// Field `field`, the lowest byte first: by its number, which is told too.
 fn put_field(bytes: &mut [u8; 130], field: usize, number: u64) {
     if field < 11 {
         let at = 8 * field;

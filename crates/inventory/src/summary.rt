@@ -59,7 +59,7 @@ fn is_inventory_len(plan: Parameters, inventory_len: u64) -> bool
     entries << plan.log2_words_per_subinventory == own
 }
 
-// The one place for the rules of a summary, refusal 9.
+// The one place for the rules of a summary, refusal 9. Its len has passed 1 before (line at bit_record's `is_origin_too_large`).
 fn is_lawful(summary: Summary) -> bool
     requires { summary.plan.len < 2 ^ 62 }
     ensures { result ≡ not (unlawful summary) }

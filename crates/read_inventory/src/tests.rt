@@ -61,7 +61,8 @@ pub(crate) fn test_call<'a>(
     Ok(index)
 }
 
-// 8 for both ranks of a dwell, then 11.
+// 8 for both ranks of a dwell, then 11. They stay two numbers, here, in `test_dwell` and in `dwell`: a struct for one call is no
+// plainer.
 fn test_ranks(num: u64, a: u64, b: u64) -> Result<(), Refusal>
     ensures { outcome result ≡ test_by (of_ranks num a b) }
 {
