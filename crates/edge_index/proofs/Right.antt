@@ -77,8 +77,11 @@ module _ (ws : List ℕ) (len origin : ℕ) (pol : Polarity) (choice : Choice) (
   unfolding inventory_len_of
   index_held = record {
     from = record { admitted = c.of.admitted; numbered = omega (arith, s.numbered, s.bit_zero, c.length) };
-    lawful = record { few = c.of.few; small_l = c.of.small_l; small_m = c.of.small_m; spaced = c.of.spaced; counted = s.inventory_len };
-    held = record { own = s.inventory_held; over = s.spill_held };
+    legible = record {
+      short = c.of.admitted.short;
+      lawful = record { few = c.of.few; small_l = c.of.small_l; small_m = c.of.small_m; spaced = c.of.spaced; counted = s.inventory_len };
+      held = record { own = s.inventory_held; over = s.spill_held };
+    };
   }
 
   tests_pass : {A : Type 0} (cs : Conditions) (rest : Outcome A) → refuse_by (of_index ws t inv sp ++ cs) rest ≡ refuse_by cs rest

@@ -14,7 +14,8 @@ pub(crate) fn write_words(bytes: &mut [u8], at: usize, cells: &[u64])
     }
 }
 
-// Reads the words from a place on into the cells, by a place as `write_words` has one. By an index: no contract says what a `zip` over `iter_mut` leaves.
+// Reads the words from a place on into the cells, by a place as `write_words` has one. By an index: no contract says what a `zip`
+// over `iter_mut` leaves.
 pub(crate) fn read_words(bytes: &[u8], at: usize, cells: &mut [u64])
     requires { at + 8 * length cells.old ≤ length bytes.now }
     ensures { cells.new ≡ words_from bytes.now at (length cells.old) }

@@ -21,7 +21,7 @@ use Rattle.inventory.proofs.Marks.{quantum_le}
 use Rattle.inventory.proofs.Ranks.{rank_entry}
 use Rattle.inventory.proofs.Shapes.{shaped}
 use Rattle.read_inventory.specs.Read.{tagged, kind_at, span_at, quantum_at, shape_at, Place, place_at, number_at, span_too_small, mark_at, entry_of_rank, mark_number, residual, mark_of_rank}
-use Rattle.read_inventory.specs.Steps.{head_of, EntryLent, HeadIn, is_over, number_of_mark, spacing_at, decoded_by, decode_of, mark_by}
+use Rattle.read_inventory.specs.Steps.{head_of, EntryLent, is_over, number_of_mark, spacing_at, decoded_by, decode_of, mark_by}
 use Rattle.read_inventory.specs.Tests.{Readable}
 use Rattle.read_inventory.specs.declared.decode.Decoded.{Decoded}
 use Rattle.read_inventory.specs.declared.decode.Head.{Head}
@@ -33,10 +33,10 @@ use Rattle.read_inventory.proofs.Reading.{tagged_16, spot_own, head_read, kind_a
 pub entry_lent : (t : Summary) (inv sp : List ℕ) (r : ℕ) → Readable t inv sp r → EntryLent t inv (entry_of_rank t r)
 unfolding inventory_len_of
 entry_lent t inv sp r a = record {
-  small_m = a.lawful.small_m;
+  small_m = a.legible.lawful.small_m;
   within =
       let l = mul-le-mul_right (stride t.plan) (rank_entry t.plan r a.below) in
-      omega (arith, l, a.lawful.counted, a.held.own);
+      omega (arith, l, a.legible.lawful.counted, a.legible.held.own);
 }
 
 refused_is : {m n : ℕ} → ◌≡◌ {A = Outcome ℕ} (refused m) (refused n) → m ≡ n
@@ -81,12 +81,6 @@ module _ {t : Summary} {inv sp : List ℕ} {r : ℕ} {h : Head} (w : Headed t in
   entry_is : h.entry ≡ entry_of_rank t r
   entry_is = ap (λ (x : Head). x.entry) w.read
 
-  pub head_in : HeadIn t inv h
-  head_in = record {
-    lent = rw entry_is (entry_lent t inv sp r w.readable);
-    read = w.read ∙ ap (λ (e : ℕ). head_of t inv e) (sym entry_is);
-  }
-
   pub reading_small : (k : ℕ) → refused k ≡ spacing_at t inv h.entry → refused k ≡ decode_of t inv sp r
   unfolding decode_of mark_at spacing_at
   reading_small k f =
@@ -106,7 +100,7 @@ module _ {t : Summary} {inv sp : List ℕ} {r : ℕ} {h : Head} {q sub : ℕ} (w
   pub quantum_low : q < 64
   quantum_low =
       let a = w.head.readable in
-      omega (arith, spaced_is.1, quantum_at_low t inv (entry_of_rank t r), a.lawful.spaced, a.lawful.small_l)
+      omega (arith, spaced_is.1, quantum_at_low t inv (entry_of_rank t r), a.legible.lawful.spaced, a.legible.lawful.small_l)
 
   number_is : sub / 2 ^ q ≡ mark_number t inv r
   unfolding mark_number
@@ -173,7 +167,7 @@ module _ {t : Summary} {inv sp : List ℕ} {r c sub : ℕ} (w : Quartered t inv 
   quarter_near : sub / 2 ^ S t.plan < 2 ^ M t.plan * 4
   quarter_near =
       let l : sub < 2 ^ (M t.plan + 2 + S t.plan) = lt_of_lt_of_le (omega (arith, w.subrank, mod-lt r (pow_pos (L t.plan))))
-      (pow_mono {i = L t.plan} {j = M t.plan + 2 + S t.plan} (omega (arith, w.readable.lawful.spaced))) in
+      (pow_mono {i = L t.plan} {j = M t.plan + 2 + S t.plan} (omega (arith, w.readable.legible.lawful.spaced))) in
       rw pow-add at (shr_lt (M t.plan + 2) (S t.plan) l)
 
   quarter_spot : Spotted t inv (entry_of_rank t r) (sub / 2 ^ S t.plan) (head_u16 inv (entry_of_rank t r) c) (shape_of U16 (get_or inv c 0)) (Own (sub / 2 ^ S t.plan / 4) (sub / 2 ^ S t.plan % 4))

@@ -41,7 +41,7 @@ module _ {ws : List ℕ} {t : Summary} {inv sp : List ℕ} {r : ℕ} {d : Decode
       let e = entry_of_rank t r in
       let i = mark_among (r % 2 ^ L p) (ranks_of p e) (quantum_at t inv e) (rank_sub p r a.below) in
       let l = marks_fit (kind_at t inv e) (start_at t inv e) (span_at t inv e) (L p) (M p) (S p) (ranks_of p e) (mark_number t inv r)
-      a.lawful.spaced (ranks_most p e) i in
+      a.legible.lawful.spaced (ranks_most p e) i in
       more_some _ _ _ _ (over_past s.read f) l
 
   stored_some : SomeLent inv sp (subinventory_of ws t inv sp r)

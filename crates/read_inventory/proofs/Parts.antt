@@ -84,8 +84,8 @@ module _ {ws : List ℕ} {t : Summary} {inv sp : List ℕ} {r : ℕ} {d : Decode
       rw cell_is in
       ap answer (e ∙ sym (part_near t inv (entry_of_rank t r) place (sym spilled_is ∙ f))) ∙ sym store_is
 
-  pub small_m_lem : M t.plan < 64
-  small_m_lem = omega (arith, s.readable.lawful.small_m)
+  small_m_lem : M t.plan < 64
+  small_m_lem = omega (arith, s.readable.legible.lawful.small_m)
 
   pub own_end : d.head.cell + 1 + 2 ^ M t.plan ≤ length inv
   own_end = omega (arith, cell_is, (entry_lent t inv sp r s.readable).within)
@@ -119,16 +119,16 @@ module _ {ws : List ℕ} {t : Summary} {inv sp : List ℕ} {r : ℕ} {d : Decode
 
   pub over_end : d.spilled ≡ true → (n k : ℕ) → k ≡ min n (t.spill_len - get_or inv (d.head.cell + 1) 0)
       → get_or inv (d.head.cell + 1) 0 + k ≤ length sp
-  over_end f n k ek = omega (arith, over_start f, s.readable.held.over)
+  over_end f n k ek = omega (arith, over_start f, s.readable.legible.held.over)
 
   pub countable : Countable t.plan d
   countable =
       let a = s.readable in
       let e = ap (λ (x : Head). x.entry) head_is in
       record {
-        few = omega (arith, a.lawful.few, a.short);
-        small_l = a.lawful.small_l;
+        few = omega (arith, a.legible.lawful.few, a.legible.short);
+        small_l = a.legible.lawful.small_l;
         small_m = small_m_lem;
-        small_q = omega (arith, quantum_is, quantum_at_low t inv (entry_of_rank t r), a.lawful.spaced, a.lawful.small_l);
+        small_q = omega (arith, quantum_is, quantum_at_low t inv (entry_of_rank t r), a.legible.lawful.spaced, a.legible.lawful.small_l);
         begun = rw e (omega (arith, a.below, div-add-mod' r (2 ^ L t.plan)));
       }

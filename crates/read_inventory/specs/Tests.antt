@@ -31,9 +31,7 @@ pub record Legible (t : Summary) (inv sp : List ℕ) : Type 0 where
   pub lawful : Lawful t
   pub held : CellsHeld t inv sp
 
--- what passing shows: a rank may be read
+-- and of a rank: it may be read
 pub record Readable (t : Summary) (inv sp : List ℕ) (r : ℕ) : Type 0 where
-  pub short : t.plan.len < 2 ^ 62
-  pub lawful : Lawful t
-  pub held : CellsHeld t inv sp
+  pub legible : Legible t inv sp
   pub below : r < N t.plan

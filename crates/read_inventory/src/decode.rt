@@ -206,7 +206,7 @@ fn mark_by(decoded: Decoded) -> Mark
     }
 }
 
-// Number i of a U16 entry, whose cells from `first` on hold its numbers: by places, as the cells' bound is.
+// Number i of a U16 entry, whose cells from `first` on hold its numbers. By place: the bound that is shown is of the whole inventory.
 fn quarter_at(inventory: &[u64], first: u64, i: u64) -> u64
     requires { first + i / 4 < length inventory.now }
     ensures { result ≡ lane_of 16 (get_or inventory.now (first + i / 4) 0) (i % 4) }

@@ -10,13 +10,14 @@ use borrow.Author.Tests.{ltb-false}
 use Rattle.std.specs.Prelude.{Result, Ok, Err, IsErr, IsErrAnd}
 use Rattle.rank_sel.specs.Outcome.{Outcome, answer, refused, number_of, test_by, NoneOf, and_then, outcome}
 use Rattle.rank_sel.specs.declared.Refusal.{Refusal}
-use Rattle.rank_sel.proofs.Outcome.{answer_is, then_answer, tests_then, none_split, passed_none, passed_then}
+use Rattle.rank_sel.proofs.Outcome.{answer_is, then_answer, tests_then, none_split, passed_none}
 use Rattle.bit_record.specs.Record.{sample_at}
 use Rattle.spacing.specs.Spacing.{N}
 use Rattle.inventory.specs.declared.summary.Summary.{Summary}
-use Rattle.read_inventory.specs.Tested.{IndexOf}
+use Rattle.read_inventory.specs.Tested.{Tested}
 use Rattle.read_inventory.specs.Tests.{of_index}
 use Rattle.read_inventory.specs.declared.index.Index.{Index}
+use Rattle.read_inventory.proofs.Passing.{tested_then}
 use Rattle.select_list.specs.Hand.{Walkable, written, Wrote, Placed}
 use Rattle.select_list.specs.List.{Walk, start, after, walk, of_list, Listed, samples_from, walk_of, list_of}
 use Rattle.select_list.specs.Step.{Step, step_of}
@@ -83,21 +84,18 @@ module _ (ws : List ℕ) (t : Summary) (inv sp : List ℕ) where
           let a : l ≡ samples walked.0 ++ drop (length (samples walked.0)) l₀ = rw (e, ← n) at c in
           placed_at l₀ l (Ok k) walked.0 walked.1 b.told g (a ∙ sym (written_front (samples walked.0) l₀ (omega arith)))
 
--- ---- the index that was handed in, a list of ranks and so many places: they passed the tests
-pub record ListCalled (ws : List ℕ) (t : Summary) (inv sp ranks : List ℕ) (lent : ℕ) (x : Index) : Type 0 where
-  pub passed : answer tt ≡ test_by (of_index ws t inv sp ++ of_list (N t.plan) ranks lent)
-  pub index : IndexOf ws t inv sp x
-
-module _ {ws : List ℕ} {t : Summary} {inv sp ranks : List ℕ} {lent : ℕ} {x : Index} (w : ListCalled ws t inv sp ranks lent x) where
+-- ---- an index that passed the tests of what was handed in, a list of ranks and so many places
+module _ (ws : List ℕ) (t : Summary) (inv sp ranks : List ℕ) (lent : ℕ) (x : Index)
+    (w : Tested (of_index ws t inv sp ++ of_list (N t.plan) ranks lent) ws t inv sp (Ok x)) where
   of_ranks : NoneOf (of_list (N t.plan) ranks lent)
   of_ranks =
       (none_split (of_index ws t inv sp) (of_list (N t.plan) ranks lent)
-      (passed_none (of_index ws t inv sp ++ of_list (N t.plan) ranks lent) w.passed)).1
+      (passed_none (of_index ws t inv sp ++ of_list (N t.plan) ranks lent) w.0)).1
 
   pub list_walkable : Walkable (N x.cells.summary.plan) ranks
   list_walkable =
       let s = of_ranks in
-      rw w.index.summary record {
+      rw w.1.summary record {
         below = λ i h. below_all (N t.plan) ranks i s.1.1.0 h;
         rising = λ i h. rw (add-one i) (rise_next ranks 0 i s.0 (omega arith));
       }
@@ -105,16 +103,11 @@ module _ {ws : List ℕ} {t : Summary} {inv sp ranks : List ℕ} {lent : ℕ} {x
   pub list_room : length ranks ≤ lent
   list_room = ltb-false lent (length ranks) of_ranks.1.0
 
-  list_passed : walk_of x.words.now x.cells.summary x.cells.inventory.now x.cells.spill.now ranks ≡ list_of ws t inv sp ranks lent
-  unfolding list_of
-  list_passed =
-      let i = w.index in
-      rw (i.words, i.summary, i.inventory, i.spill)
-      (passed_then (of_index ws t inv sp ++ of_list (N t.plan) ranks lent) w.passed (walk_of ws t inv sp ranks))
-
   pub list_placed : (l₀ l : List ℕ) (r : Result ℕ Refusal) → Placed (walk_of x.words.now x.cells.summary x.cells.inventory.now x.cells.spill.now ranks) l₀ l r
       → Placed (list_of ws t inv sp ranks lent) l₀ l r
-  list_placed l₀ l r p = subst (λ (q : Outcome Listed). Placed q l₀ l r) list_passed p
+  unfolding list_of
+  list_placed l₀ l r p =
+      subst (λ (q : Outcome Listed). Placed q l₀ l r) (tested_then ws t inv sp x (of_index ws t inv sp ++ of_list (N t.plan) ranks lent) w (λ ws t inv sp. walk_of ws t inv sp ranks)) p
 
 -- and one that did not
 pub list_stopped : (ws : List ℕ) (t : Summary) (inv sp ranks : List ℕ) (lent : ℕ) (y : Refusal)

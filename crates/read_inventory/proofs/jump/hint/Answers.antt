@@ -7,15 +7,9 @@ use Rattle.spacing.specs.Spacing.{N}
 use Rattle.read_inventory.specs.Jump.{hint_of}
 use Rattle.read_inventory.specs.Tests.{of_index, of_rank}
 use Rattle.read_inventory.proofs.Answers.{MarkRead, hint_by, hint_none, mark_below, passes_few}
-use Rattle.read_inventory.proofs.Passing.{Called, hint_passed, refused_so}
-use Rattle.read_inventory.proofs.jump.hint.Goals.{In_ok-index, In_ok-mark}
+use Rattle.read_inventory.proofs.Passing.{hint_passed, refused_so}
+use Rattle.read_inventory.proofs.jump.hint.Goals.{In_ok-mark}
 use Rattle.read_inventory.proofs.jump.hint.Goals as goal
-
--- the tests were passed
-module _ (c : In_ok-index) where
-  called : let a = c.args in
-      Called a.words.now a.summary a.inventory.now a.spill.now a.rank c.in_ok-index.index
-  called = record { passed = c.in_ok-index.ensures.0; index = c.in_ok-index.ensures.1 }
 
 -- the mark is read
 module _ (c : In_ok-mark) where
@@ -32,7 +26,7 @@ returns-in_err-index c =
 pub returns-in_err-mark : goal.returns-in_err-mark
 returns-in_err-mark c =
     refused_so _ _ c.from_residual-in_err-mark.ensures _
-    (hint_none _ _ _ _ _ c.in_err-mark.ensures ∙ hint_passed (called (goal.at.returns-in_err-mark c).In_ok-index))
+    (hint_none _ _ _ _ _ c.in_err-mark.ensures ∙ hint_passed _ _ _ _ _ c.args.rank c.in_ok-index.ensures)
 
 pub sample_at-requires : goal.sample_at-requires
 sample_at-requires c =
@@ -50,4 +44,4 @@ pub returns : goal.returns
 returns c =
     rw c.sample_at.ensures
     (hint_by (read (goal.at.returns c).In_ok-mark)
-    ∙ hint_passed (called (goal.at.returns c).In_ok-index))
+    ∙ hint_passed _ _ _ _ _ c.args.rank c.in_ok-index.ensures)

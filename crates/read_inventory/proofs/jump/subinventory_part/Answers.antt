@@ -6,30 +6,23 @@ use lib.ListN.{length}
 use borrow.Author.Rules.{rules}
 use Rattle.read_inventory.proofs.Answers.{read_by, hint_decoded, hint_undecoded}
 use Rattle.read_inventory.proofs.Parts.{Stored, store_refused, store_own, stored_refused, own_start, own_end, store_over, over_start, over_end, countable}
-use Rattle.read_inventory.proofs.Passing.{Called, called_readable, hint_as, hint_passed, hint_stopped}
-use Rattle.read_inventory.proofs.jump.subinventory_part.Goals.{In_ok-decoded, In_ok-index}
+use Rattle.read_inventory.proofs.Passing.{hint_stopped, hint_passed, itself_readable, itself_hint}
+use Rattle.read_inventory.proofs.jump.subinventory_part.Goals.{In_ok-decoded}
 use Rattle.read_inventory.proofs.jump.subinventory_part.Goals as goal
-
--- the tests were passed
-module _ (c : In_ok-index) where
-  called : let a = c.args in
-      Called a.words.now a.summary a.inventory.now a.spill.now a.rank c.in_ok-index.index
-  called = record { passed = c.in_ok-index.ensures.0; index = c.in_ok-index.ensures.1 }
 
 -- the mark is decoded
 module _ (c : In_ok-decoded) where
-  stored : let a = c.args in let x = c.in_ok-index.index in
-      Stored x.words.now x.cells.summary x.cells.inventory.now x.cells.spill.now a.rank c.in_ok-decoded.decoded
+  stored : let x = c.in_ok-index.index in
+      Stored x.words.now x.cells.summary x.cells.inventory.now x.cells.spill.now c.args.rank c.in_ok-decoded.decoded
   stored =
-      let a = c.args in
       let x = c.in_ok-index.index in
+      let w = c.in_ok-index.ensures in
       let e = sym c.in_ok-decoded.ensures in
-      let p = called (goal.at.In_ok-decoded c).In_ok-index in
       record {
-        readable = called_readable p;
-        read = read_by x.cells.summary x.cells.inventory.now x.cells.spill.now a.rank _ e;
+        readable = itself_readable _ _ _ _ x c.args.rank w;
+        read = read_by x.cells.summary x.cells.inventory.now x.cells.spill.now c.args.rank _ e;
         hint = _;
-        hinted = sym (hint_as p) ∙ hint_decoded x.cells.summary x.cells.inventory.now x.cells.spill.now a.rank _ e;
+        hinted = sym (itself_hint _ _ _ _ x c.args.rank w) ∙ hint_decoded x.cells.summary x.cells.inventory.now x.cells.spill.now c.args.rank _ e;
       }
 
   near : c.in_ok-decoded.decoded.head.cell + 1 < length c.args.inventory.now
@@ -43,7 +36,8 @@ pub returns-in_err-decoded : goal.returns-in_err-decoded
 returns-in_err-decoded c =
     stored_refused _ _ c.from_residual-in_err-decoded.ensures _
     (store_refused _ _ _ _ _ _
-    (hint_undecoded _ _ _ _ _ c.in_err-decoded.ensures ∙ hint_passed (called (goal.at.returns-in_err-decoded c).In_ok-index))) _ _
+    (hint_undecoded _ _ _ _ _ c.in_err-decoded.ensures
+    ∙ hint_passed _ _ _ _ _ c.args.rank c.in_ok-index.ensures)) _ _
 
 pub overflow_add-own : goal.overflow_add-own
 overflow_add-own c =

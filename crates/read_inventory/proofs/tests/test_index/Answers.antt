@@ -17,8 +17,7 @@ module _ (c : In_ok-test_cells) where
 
 pub invariant_of-cells : goal.invariant_of-cells
 invariant_of-cells c =
-    let h = held c in
-    record { legible = record { short = h.from.admitted.short; lawful = h.lawful; held = h.held } }
+    record { legible = (held (goal.at.invariant_of-cells c).In_ok-test_cells).legible }
 
 pub invariant_of-result : goal.invariant_of-result
 invariant_of-result c =

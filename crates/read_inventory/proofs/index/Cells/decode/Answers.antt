@@ -3,7 +3,7 @@
 use native.Mathlib.Omega.{arith}
 use Rattle.read_inventory.specs.Tests.{Readable}
 use Rattle.read_inventory.proofs.Decoding.{Headed, Divided, Numbered, entry_lent, quantum_low, reading_small, reading_none, reading_past, reading_is}
-use Rattle.read_inventory.proofs.Passing.{readable_by, refused_so}
+use Rattle.read_inventory.proofs.Passing.{refused_so}
 use Rattle.read_inventory.proofs.index.Cells.decode.Goals.{After-low_bits-subrank, After-open-entry, After-shape_of-base, Start}
 use Rattle.read_inventory.proofs.index.Cells.decode.Goals as goal
 
@@ -11,7 +11,7 @@ module _ (c : Start) where
   read :
       let a = c.args in
       Readable a.self.summary a.self.inventory.now a.self.spill.now a.rank
-  read = readable_by _ _ _ c.args.self.legible c.args.rank c.requires
+  read = record { legible = c.args.self.legible; below = c.requires }
 
 module _ (c : After-open-entry) where
   headed :

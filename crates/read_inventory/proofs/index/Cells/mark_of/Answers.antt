@@ -7,7 +7,7 @@ use Rattle.read_inventory.specs.Read.{entry_of_rank}
 use Rattle.read_inventory.specs.Steps.{EntryLent}
 use Rattle.read_inventory.specs.Tests.{Readable}
 use Rattle.read_inventory.proofs.Decoding.{Quartered, entry_lent, quarter_in, quarter_fits, quarter_past, quarter_is, decoded_marks}
-use Rattle.read_inventory.proofs.Passing.{readable_by, refused_so}
+use Rattle.read_inventory.proofs.Passing.{refused_so}
 use Rattle.read_inventory.proofs.index.Cells.mark_of.Goals.{After-low_bits-subrank, Start}
 use Rattle.read_inventory.proofs.index.Cells.mark_of.Goals as goal
 
@@ -15,7 +15,7 @@ module _ (c : Start) where
   read :
       let a = c.args in
       Readable a.self.summary a.self.inventory.now a.self.spill.now a.rank
-  read = readable_by _ _ _ c.args.self.legible c.args.rank c.requires
+  read = record { legible = c.args.self.legible; below = c.requires }
 
   lent : EntryLent c.args.self.summary c.args.self.inventory.now (entry_of_rank c.args.self.summary c.args.rank)
   lent = entry_lent _ _ _ c.args.rank read
