@@ -1,6 +1,6 @@
 // A summary: its counts, and whether it is by the rules.
-ghost use Rattle.std.specs.Prelude.{true, not, [], ◌∷◌, ◌≡◌, ◌*◌, ◌^◌, ◌≤◌, ◌<◌, eqb, ltb};
-ghost use Rattle.rank_sel.specs.Outcome.{number_of, outcome, test_by};
+ghost use Rattle.std.specs.Prelude.{not, [], ◌∷◌, ◌≡◌, ◌*◌, ◌^◌, ◌≤◌, ◌<◌, eqb, ltb};
+ghost use Rattle.rank_sel.specs.Outcome.{number_of, outcome, refused, test_by};
 ghost use Rattle.spacing.specs.Spacing.{L, M, N, max_log2_words};
 ghost use Rattle.inventory.specs.Index.{entries_of, inventory_len_of, ranks_of, stride_by};
 ghost use Rattle.inventory.specs.Lawful.{of_cells, of_summary, unlawful};
@@ -97,7 +97,7 @@ pub fn test_summary(summary: Summary) -> Result<(), Refusal>
 #[cold]
 #[inline(never)]
 fn refuse(refusal: Refusal) -> Result<(), Refusal>
-    ensures { outcome result ≡ test_by ((true, number_of refusal) ∷ []) }
+    ensures { outcome result ≡ refused (number_of refusal) }
 {
     Err(refusal)
 }
