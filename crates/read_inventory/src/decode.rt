@@ -260,9 +260,9 @@ impl<'a> Cells<'a> {
     // Steps 2 to 6 for a caller that asks for the mark alone. Nearly every entry is U16, and its numbers all stand in its own
     // cells: they are read without the general shape. By `decode` alone a jump takes half as long again.
     #[inline(always)]
-    pub fn mark_of(self, rank: u64) -> Result<Mark, Refusal>
-        requires { rank < N self.summary.plan }
-        ensures { outcome result ≡ mark_of_rank self.entry.summary self.entry.inventory.now self.entry.spill.now rank }
+    pub fn mark_of(&self, rank: u64) -> Result<Mark, Refusal>
+        requires { rank < N self.now.summary.plan }
+        ensures { outcome result ≡ mark_of_rank self.now.summary self.now.inventory.now self.now.spill.now rank }
     {
         let plan = self.summary.plan;
         let l = plan.log2_ones_per_inventory;

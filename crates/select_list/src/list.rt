@@ -35,7 +35,7 @@ fn walk_into(index: Index<'_>, ranks: &[u64], places: &mut [u64]) -> Result<u64,
     let mut hand = None;
     let mut total = 0;
     for (i, rank) in ranks.iter().enumerate() {
-        let step = step_to(index, hand, *rank)?;
+        let step = step_to(&index, hand, *rank)?;
         put(places, i, sample_at(origin, step.position));
         total += step.words;
         hand = step.hand;

@@ -85,9 +85,9 @@ fn read_from(bits: &Record<'_>, rank: u64, start: StartAt) -> Result<Advance, Re
 }
 
 // The record is made where a reading needs it: an exact mark needs none.
-pub(crate) fn step_to(index: Index<'_>, hand: Option<Hand>, rank: u64) -> Result<Advance, Refusal>
-    requires { (rank < N index.cells.summary.plan) × HandIn (selected index.cells.summary.plan.polarity index.words.now index.cells.summary.plan.len) index.cells.summary.plan.len rank hand }
-    ensures { Advances (selected index.entry.cells.summary.plan.polarity index.entry.words.now index.entry.cells.summary.plan.len) index.entry.cells.summary.plan.len rank (step_of index.entry.words.now index.entry.cells.summary index.entry.cells.inventory.now index.entry.cells.spill.now (last_of hand) rank) result }
+pub(crate) fn step_to(index: &Index<'_>, hand: Option<Hand>, rank: u64) -> Result<Advance, Refusal>
+    requires { (rank < N index.now.cells.summary.plan) × HandIn (selected index.now.cells.summary.plan.polarity index.now.words.now index.now.cells.summary.plan.len) index.now.cells.summary.plan.len rank hand }
+    ensures { Advances (selected index.now.cells.summary.plan.polarity index.now.words.now index.now.cells.summary.plan.len) index.now.cells.summary.plan.len rank (step_of index.now.words.now index.now.cells.summary index.now.cells.inventory.now index.now.cells.spill.now (last_of hand) rank) result }
 {
     let mark = index.cells.mark_of(rank)?;
     if mark.exact {

@@ -14,16 +14,16 @@ use Rattle.read_inventory.proofs.index.Cells.mark_of.Goals as goal
 module _ (c : Start) where
   read :
       let a = c.args in
-      Readable a.self.summary a.self.inventory.now a.self.spill.now a.rank
-  read = record { legible = c.args.self.legible; below = c.requires }
+      Readable a.self.now.summary a.self.now.inventory.now a.self.now.spill.now a.rank
+  read = record { legible = c.args.self.now.legible; below = c.requires }
 
-  lent : EntryLent c.args.self.summary c.args.self.inventory.now (entry_of_rank c.args.self.summary c.args.rank)
+  lent : EntryLent c.args.self.now.summary c.args.self.now.inventory.now (entry_of_rank c.args.self.now.summary c.args.rank)
   lent = entry_lent _ _ _ c.args.rank read
 
 module _ (c : After-low_bits-subrank) where
   quartered :
       let a = c.args in
-      Quartered a.self.summary a.self.inventory.now a.self.spill.now a.rank c.first_cell-cell.result c.low_bits-subrank.result
+      Quartered a.self.now.summary a.self.now.inventory.now a.self.now.spill.now a.rank c.first_cell-cell.result c.low_bits-subrank.result
   quartered =
       record {
         readable = read (goal.at.After-low_bits-subrank c).Start;
