@@ -152,9 +152,10 @@ uint32_t edge_index_read_image(const uint8_t *bytes, size_t bytes_len,
                                uint64_t *inventory, size_t inventory_len, uint64_t *spill, size_t spill_len,
                                edge_index_summary *summary);
 
-/* In-word select: the position of the one of this rank in one word.
+/* In-word select: the position of the one of this rank in one word, and how many ones of the word remain above it: in 0x252
+ * rank 1 has position 4 with 2 remaining. 0 remaining says that the word holds no further one.
  * Refusal 8. */
-uint32_t edge_index_select_in_word(uint64_t word, uint64_t rank, uint64_t *position);
+uint32_t edge_index_select_in_word(uint64_t word, uint64_t rank, uint64_t *position, uint64_t *remaining);
 
 #ifdef __cplusplus
 }

@@ -499,7 +499,8 @@ fn refused_records(tally: &mut Tally) {
     }
 }
 
-/// In-word select against the Rust below the word's ones, and against the model at any rank.
+/// In-word select against the Rust below the word's ones, where what remains is the ones less the rank less one, and
+/// against the model at any rank.
 fn in_words(tally: &mut Tally, random: &Random, count: u64) {
     use sux::utils::SelectInWord;
     let bytes = (0..256u64).flat_map(|byte| (0..8).map(move |place| byte << (8 * place)));
@@ -510,8 +511,10 @@ fn in_words(tally: &mut Tally, random: &Random, count: u64) {
             let case = Case { words: &[word], len: 64, polarity: ONES, choice: default() };
             let ours = ffi::select_in_word(word, rank);
             tally.equal(&case, "in-word select", ours, model::select_in_word(word, rank));
-            if rank < word.count_ones() as u64 {
-                tally.equal(&case, "in-word select (Rust)", ours, Ok(word.select_in_word(rank as usize) as u64));
+            let ones = word.count_ones() as u64;
+            if rank < ones {
+                let position = word.select_in_word(rank as usize) as u64;
+                tally.equal(&case, "in-word select (Rust)", ours, Ok((position, ones - rank - 1)));
             }
         }
     }

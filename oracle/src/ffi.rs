@@ -65,7 +65,7 @@ mod c {
             bytes: *const u8, bytes_len: usize,
             inventory: *mut u64, inventory_len: usize, spill: *mut u64, spill_len: usize, summary: *mut Summary,
         ) -> u32;
-        pub fn edge_index_select_in_word(word: u64, rank: u64, position: *mut u64) -> u32;
+        pub fn edge_index_select_in_word(word: u64, rank: u64, position: *mut u64, remaining: *mut u64) -> u32;
     }
 }
 
@@ -251,8 +251,9 @@ pub fn read_image(bytes: &[u8], inventory: &mut [u64], spill: &mut [u64]) -> Res
     answer(code, summary.into()).map(Summary::from)
 }
 
-pub fn select_in_word(word: u64, rank: u64) -> Result<u64, u32> {
-    let mut position = SENTINEL;
-    let code = unsafe { c::edge_index_select_in_word(word, rank, &mut position) };
-    answer(code, [position]).map(|[position]| position)
+/// In-word select: the position, and how many ones remain above it.
+pub fn select_in_word(word: u64, rank: u64) -> Result<(u64, u64), u32> {
+    let (mut position, mut remaining) = (SENTINEL, SENTINEL);
+    let code = unsafe { c::edge_index_select_in_word(word, rank, &mut position, &mut remaining) };
+    answer(code, [position, remaining]).map(|[position, remaining]| (position, remaining))
 }

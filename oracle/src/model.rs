@@ -143,9 +143,12 @@ pub fn count(words: &[u64], len: u64, polarity: u32) -> Answer<u64> {
     Ok(positions(words, len as u128, polarity).len() as u64)
 }
 
-/// "Word select": the position of one number `rank`; 8 where the rank is not below "the word's ones".
-pub fn select_in_word(word: u64, rank: u64) -> Answer<u64> {
-    (0..64).filter(|p| word >> p & 1 == 1).nth(rank.min(64) as usize).ok_or(8)
+/// "Word select": the position of one number `rank`, and "the number of ones above it in the word"; 8 where the rank is
+/// not below "the word's ones".
+pub fn select_in_word(word: u64, rank: u64) -> Answer<(u64, u64)> {
+    let one = |p: &u64| word >> p & 1 == 1;
+    let position = (0..64).filter(one).nth(rank.min(64) as usize).ok_or(8u32)?;
+    Ok((position, (position + 1..64).filter(one).count() as u64))
 }
 
 // ------------------------------------------------------------------------------------ choosing the spacing

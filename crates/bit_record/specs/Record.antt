@@ -1,10 +1,10 @@
 -- A record and what is selected in it. Document 01, "What it covers".
 use Rattle.std.specs.Prelude as std
-use Rattle.std.specs.Prelude.{Bool, not, ◌&&◌, List, [], ◌∷◌, ◌++◌, ◌≡◌, ℕ, ◌+◌, ◌-◌, ◌*◌, ◌/◌, ◌%◌, ◌^◌, ◌≤◌, ◌<◌, ltb, length, get_or}
+use Rattle.std.specs.Prelude.{Bool, true, not, ◌&&◌, List, [], ◌∷◌, ◌++◌, ◌≡◌, ℕ, suc, ◌+◌, ◌-◌, ◌*◌, ◌/◌, ◌%◌, ◌^◌, ◌≤◌, ◌<◌, ltb, length, get_or, IfSome}
 use Rattle.std.proofs.Math.Option.{Option, none, some}
 use Rattle.rank_sel.specs.Numbers.{ceil_div}
 use Rattle.rank_sel.specs.Outcome.{Outcome, answer, Conditions, refuse_by}
-use Rattle.rank_sel.specs.Rank.{rank}
+use Rattle.rank_sel.specs.Rank.{rank, rank_between}
 use Rattle.rank_sel.specs.Seek.{seek, select}
 use Rattle.select_in_word.specs.Bit.{bit}
 use Rattle.select_in_word.specs.Holds.{Holds}
@@ -64,15 +64,17 @@ abbrev pub found : std.Option Found → Option ℕ
 found (std.Some r) = some r.position
 found std.None = none
 
--- the 64 positions of the found one's word
-abbrev pub Handed : (ℕ → Bool) → std.Option Found → Type 0
-Handed f (std.Some r) = Holds 64 f (64 * (r.position / 64)) r.word
-Handed f std.None = Unit {0}
+-- a selected position, with its word, by number, and how many selected positions remain in that word above it (document 02, W-205)
+pub record FoundIn (f : ℕ → Bool) (r : Found) : Type 0 where
+  pub here : f r.position ≡ true
+  pub index : r.index ≡ r.position / 64
+  pub word : Holds 64 f (64 * r.index) r.word
+  pub remaining : r.remaining ≡ rank_between f (suc r.position) (64 * r.index + 64)
 
--- what is sought among the n positions from x on, and its word
+-- what is sought among the n positions from x on
 pub record Finds (f : ℕ → Bool) (n x k : ℕ) (r : std.Option Found) : Type 0 where
   pub position : found r ≡ seek f n x k
-  pub word : Handed f r
+  pub bit : IfSome r (FoundIn f)
 
 -- a record that is turned down by neither 1 nor 2
 pub record Admitted (ws : List ℕ) (len : ℕ) : Type 0 where

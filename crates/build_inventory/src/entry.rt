@@ -90,9 +90,10 @@ impl Placed<'_> {
     pub fn stream(&self) -> Stream<'_>
         ensures { (result.placed.now ≡ self.now) × (result.k ≡ self.now.entry.shape.from) }
     {
+        let record = self.planned.plan.record(self.planned.words);
         let mut stream = Stream {
             placed: self,
-            at: self.entry.start,
+            at: record.found_at(self.entry.start),
             k: 0,
         };
         if self.entry.shape.from == 0 {

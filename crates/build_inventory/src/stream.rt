@@ -2,15 +2,16 @@
 ghost use Rattle.std.specs.Prelude.{◌+◌, ◌*◌, ◌^◌, ◌<◌, length};
 ghost use Rattle.build_inventory.specs.Placed.{AtMark};
 
-use crate::entry::{or_end, write_cell};
+use crate::entry::write_cell;
 use crate::planned::Placed;
+use bit_record::Found;
 use rank_sel::pow2;
 
-// It stands at lane k, whose mark is at `at`.
+// It stands at lane k, whose mark is the bit `at`: the next mark is sought by what remains in that bit's word.
 #[derive(Clone, Copy)]
 pub struct Stream<'a> {
     pub placed: &'a Placed<'a>,
-    pub at: u64,
+    pub at: Found,
     pub k: u64,
     ghost stands: { AtMark placed.now at k },
 }
@@ -21,7 +22,9 @@ impl<'a> Stream<'a> {
     ghost use Rattle.build_inventory.specs.Compare.{Compared};
     ghost use Rattle.build_inventory.specs.Stream.{Stepped, Wrote};
 
-    // The next lane. What each step asks of `k` differs: a lane, a cell of up to four, and so many cells.
+    // The next lane. Inlined, like `next_cell`: so the bit stays in registers. What each step asks of `k` differs: a lane, a cell of
+    // up to four, and so many cells.
+    #[inline(always)]
     pub fn next_lane(&mut self) -> u64
         requires { self.old.k < 2 ^ 63 }
         ensures { Stepped self.old (lane (pos_at self.old.placed.now) self.old.placed.now.entry self.old.k) 1 self.new result }
@@ -36,18 +39,20 @@ impl<'a> Stream<'a> {
             return 0;
         }
         let shape = x.shape;
-        let value = at - shape.base;
+        let value = at.position - shape.base;
         if next >= x.marks {
             return value;
         }
         let plan = placed.planned.plan;
         let record = plan.record(placed.planned.words);
-        let place = record.seek_from(at, pow2(x.log2_quantum));
-        self.at = or_end(place, plan);
+        if let Some(found) = record.seek_on(at, pow2(x.log2_quantum)) {
+            self.at = found;
+        }
         value
     }
 
     // The cell of the next lanes, lowest first: quarters, halves or one whole.
+    #[inline(always)]
     fn next_cell(&mut self) -> u64
         requires { self.old.k + 4 < 2 ^ 63 }
         ensures { Stepped self.old (packed (pos_at self.old.placed.now) self.old.placed.now.entry self.old.k) self.old.placed.now.entry.shape.lanes self.new result }

@@ -122,7 +122,16 @@ table_agrees = (
                                                                                       refl,
                                                                                       (
                                                                                         refl,
-                                                                                        (refl, (refl, (refl, (refl, (refl, (refl, tt)))))),
+                                                                                        (
+                                                                                          refl,
+                                                                                          (
+                                                                                            refl,
+                                                                                            (
+                                                                                              refl,
+                                                                                              (refl, (refl, (refl, (refl, (refl, (refl, tt)))))),
+                                                                                            ),
+                                                                                          ),
+                                                                                        ),
                                                                                       ),
                                                                                     ),
                                                                                   ),

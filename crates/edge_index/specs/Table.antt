@@ -1,9 +1,10 @@
--- Records to try: what the definitions give, beside what document 01 and the source say. Its starred lines are marked *.
--- Then lists, beside document 02's W-201, origins, beside W-202, and images, beside W-203.
+-- Records to try: what the definitions give, beside what document 01 and the source say. Its starred lines, and the one that
+-- document 02's W-205 adds, are marked *. Then lists, beside its W-201, origins, beside W-202, and images, beside W-203.
 use Rattle.std.specs.Prelude.{true, false, List, [], ◌∷◌, ◌++◌, map, ◌≡◌, ℕ, ◌+◌, ◌-◌, ◌^◌, pos, negsuc, length, take, drop, set, replicate}
 use Rattle.std.specs.Float.{nan, inf, fin}
 use Rattle.rank_sel.specs.Outcome.{Outcome, answer, refused}
 use Rattle.select_in_word.specs.Select.{select_in_word}
+use Rattle.select_in_word.specs.declared.One.{One}
 use Rattle.bit_record.specs.Record.{count_of}
 use Rattle.bit_record.specs.declared.Polarity.{Polarity}
 use Rattle.bit_record.specs.declared.Polarity.TheVariants.{Ones, Zeros}
@@ -78,6 +79,10 @@ builds_from origin ws len pol choice cells = (
 abbrev pub builds : List ℕ → ℕ → Polarity → Choice → ℕ → Outcome Summary × List ℕ
 builds = builds_from 0
 
+-- what in-word select answers: a position, and how many ones remain above it
+abbrev pub one : ℕ → ℕ → Outcome One
+one p n = answer (record { position = p; remaining = n })
+
 abbrev pub table : List Line
 table =
     -- "Counting padding as zeros: A has 6"
@@ -87,13 +92,17 @@ table =
     ∷ line (count_of A (2 ^ 62) Ones) (refused 1)
     ∷ line (count_of A 65 Ones) (refused 2)
     -- utils/select_in_word.rs
-    ∷ line (select_in_word 0b1 0) (answer 0)
-    ∷ line (select_in_word 0b11 1) (answer 1)
-    ∷ line (select_in_word 0b101 1) (answer 2)
-    ∷ line (select_in_word 0x8000_0000_0000_0000 0) (answer 63)
-    ∷ line (select_in_word 0x8000_0000_8000_0000 0) (answer 31)
-    ∷ line (select_in_word 0x8000_0000_8000_0000 1) (answer 63)
+    ∷ line (select_in_word 0b1 0) (one 0 0)
+    ∷ line (select_in_word 0b11 1) (one 1 0)
+    ∷ line (select_in_word 0b101 1) (one 2 0)
+    ∷ line (select_in_word 0x8000_0000_0000_0000 0) (one 63 0)
+    ∷ line (select_in_word 0x8000_0000_8000_0000 0) (one 31 1)
+    ∷ line (select_in_word 0x8000_0000_8000_0000 1) (one 63 0)
     ∷ line (select_in_word 0x252 4) (refused 8)
+    -- * word 0x252, rank 1: 4 with 2 remaining; its last one and the last of all ones, with none
+    ∷ line (select_in_word 0x252 1) (one 4 2)
+    ∷ line (select_in_word 0x252 3) (one 9 0)
+    ∷ line (select_in_word 0xffff_ffff_ffff_ffff 63) (one 63 0)
     -- * A ones, default: L 10, M 0, S 8
     ∷ line (plan_of A 10 Ones Default) (answer (parameters Ones 10 4 10 0 8))
     -- * N 3, len 10, span 5: L 1

@@ -7,6 +7,6 @@ pub use index_image::{read_image, write_image};
 pub use inventory::Summary;
 pub use rank_sel::{REFUSAL_COUNT, REFUSALS, Refusal};
 pub use read_inventory::{CellPart, Hint, dwell, hint, select, subinventory, subinventory_part};
-pub use select_in_word::select_in_word;
+pub use select_in_word::{One, select_in_word};
 pub use select_list::select_list;
 pub use spacing::{Choice, MAX_LOG2_WORDS_PER_SUBINVENTORY, Parameters, plan};

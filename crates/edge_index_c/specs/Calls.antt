@@ -1,6 +1,7 @@
 -- What each call of include/edge_index.h returns and writes, by the definitions of the entry that it stands for.
 use Rattle.std.specs.Prelude.{Bool, true, false, not, List, ◌⊎◌, ◌↔◌, ◌≡◌, ℕ, ◌+◌, ◌≤◌, ◌<◌, ltb, Float, length, get_or}
 use Rattle.rank_sel.specs.Outcome.{Outcome, answer, refused, refuse_if, and_then}
+use Rattle.select_in_word.specs.declared.One.{One}
 use Rattle.bit_record.specs.Record.{count_of}
 use Rattle.spacing.specs.Spacing.{plan_of}
 use Rattle.inventory.specs.Numbers.{polarity_at, summary_at, numbers_of}
@@ -111,6 +112,10 @@ pub record ReadC (bytes inv₀ inv sp₀ sp out₀ out : List ℕ) (r : ℕ) : T
   pub returned : Returned (and_then (read_of bytes inv₀ sp₀) (λ t. answer (numbers_of t))) r out₀ out
   pub inventory : inv ≡ cells_after (read_of bytes inv₀ sp₀) (inventory_in bytes) inv₀
   pub spill : sp ≡ cells_after (read_of bytes inv₀ sp₀) (spill_in bytes) sp₀
+
+-- ---- in-word select
+abbrev pub one_as : ℕ → ℕ → One
+one_as position remaining = record { position = position; remaining = remaining }
 
 -- ---- store
 -- a part as numbers: its slice, 1 the inventory, 2 the spill; its first cell; how many

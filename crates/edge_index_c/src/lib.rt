@@ -5,7 +5,7 @@
 ghost use Rattle.std.specs.Prelude.{true, false, ◌≡◌, ltb, get_or, length, MatchOption};
 ghost use Rattle.rank_sel.specs.Outcome.{number_of, outcome};
 ghost use Rattle.select_in_word.specs.Select.{select_in_word};
-ghost use Rattle.edge_index_c.specs.Calls.{BuiltC, ListedC, ReadC, Returned, WroteC, build_c, cells_as, check_c, count_c, dwell_c, hint_as, hint_c, list_c, plan_c, select_c, size_c, sizes_as, subinventory_c, verdict_of, write_c};
+ghost use Rattle.edge_index_c.specs.Calls.{BuiltC, ListedC, ReadC, Returned, WroteC, build_c, cells_as, check_c, count_c, dwell_c, hint_as, hint_c, list_c, one_as, plan_c, select_c, size_c, sizes_as, subinventory_c, verdict_of, write_c};
 ghost use Rattle.inventory.specs.Numbers.{numbers_of as numbers_in, polarity_at, summary_at};
 ghost use Rattle.edge_index_c.specs.Codes.{choice_at, known, uncounted};
 
@@ -360,8 +360,20 @@ pub fn edge_index_read_image(
     give(told.map(numbers), summary)
 }
 
-pub fn edge_index_select_in_word(word: u64, rank: u64, position: &mut u64) -> u32
-    ensures { Returned (select_in_word word rank) result position.old position.new }
+pub fn edge_index_select_in_word(
+    word: u64,
+    rank: u64,
+    position: &mut u64,
+    remaining: &mut u64,
+) -> u32
+    ensures { Returned (select_in_word word rank) result (one_as position.old remaining.old) (one_as position.new remaining.new) }
 {
-    give(edge_index::select_in_word(word, rank), position)
+    match edge_index::select_in_word(word, rank) {
+        Ok(one) => {
+            *position = one.position;
+            *remaining = one.remaining;
+            0
+        }
+        Err(refusal) => status(refusal),
+    }
 }

@@ -5,7 +5,7 @@
 
 ghost use Rattle.std.specs.Prelude.{length};
 ghost use Rattle.select_in_word.specs.Select.{select_in_word};
-ghost use Rattle.edge_index_c.specs.Calls.{BuiltC, ListedC, ReadC, Returned, WroteC, build_c, cells_as, check_c, count_c, dwell_c, hint_as, hint_c, list_c, plan_c, select_c, size_c, sizes_as, subinventory_c, write_c};
+ghost use Rattle.edge_index_c.specs.Calls.{BuiltC, ListedC, ReadC, Returned, WroteC, build_c, cells_as, check_c, count_c, dwell_c, hint_as, hint_c, list_c, one_as, plan_c, select_c, size_c, sizes_as, subinventory_c, write_c};
 
 use inventory::SUMMARY_NUMBERS;
 
@@ -207,8 +207,13 @@ pub extern "C" fn edge_index_read_image(
 }
 
 #[unsafe(no_mangle)]
-pub extern "C" fn edge_index_select_in_word(word: u64, rank: u64, position: &mut u64) -> u32
-    ensures { Returned (select_in_word word rank) result position.old position.new }
+pub extern "C" fn edge_index_select_in_word(
+    word: u64,
+    rank: u64,
+    position: &mut u64,
+    remaining: &mut u64,
+) -> u32
+    ensures { Returned (select_in_word word rank) result (one_as position.old remaining.old) (one_as position.new remaining.new) }
 {
-    edge_index_c::edge_index_select_in_word(word, rank, position)
+    edge_index_c::edge_index_select_in_word(word, rank, position, remaining)
 }

@@ -128,6 +128,10 @@ module _ (pos : ℕ → ℕ) (p : Parameters) where
   unfolding entry_of entry_from
   next_is e = refl
 
+  pub first_is : (e : ℕ) → (entry_of pos p e).first ≡ e * 2 ^ L p
+  unfolding entry_of entry_from
+  first_is e = refl
+
   pub few_heads : (e : ℕ) → (entry_of pos p e).shape.heads ≤ 1
   unfolding entry_of entry_from
   few_heads e = (shaped (from_span (start_of pos p (e + 1) - start_of pos p e)) (start_of pos p e)).heads

@@ -4,8 +4,8 @@ ghost use Rattle.read_inventory.specs.Tests.{Legible};
 
 use inventory::Summary;
 
-// A summary and cells that 2, 9, 6 and 7 do not turn down: what steps 2 to 6 read. By value, as an `Index` is. That a rank is below
-// N is asked of each: a type of such a rank would be a struct of one number that holds these again.
+// A summary and cells that 2, 9, 6 and 7 do not turn down: what steps 2 to 6 read. That a rank is below N is asked of each: a type
+// of such a rank would be a struct of one number that holds these again.
 #[derive(Clone, Copy)]
 pub struct Cells<'a> {
     pub summary: Summary,
@@ -15,7 +15,8 @@ pub struct Cells<'a> {
 }
 
 // The same with the words of the record, past 1 and 14 too. Before they are tested an entry takes the four as they are handed in.
-// It goes by value, and what a jump calls is inlined: behind a reference, or in a call, it has to be stored.
+// It is handed out by value, and what a jump calls is inlined: in a call it has to be stored. What a list asks for every rank takes a
+// reference: by value it is copied each time.
 #[derive(Clone, Copy)]
 pub struct Index<'a> {
     pub words: &'a [u64],

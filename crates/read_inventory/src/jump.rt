@@ -20,6 +20,18 @@ use inventory::{Summary, entry_ranks, spilled_by};
 use rank_sel::{Refusal, ceil_shift, pow2};
 use spacing::Parameters;
 
+// Step 7 where the mark is not the answer. In a call of its own: what it answers is smaller than what a seek finds, and every jump
+// keeps room for it.
+#[inline(never)]
+fn seek_past(bits: &Record<'_>, mark: u64, residual: u64) -> Result<u64, Refusal>
+    ensures { outcome result ≡ or_refuse 10 (seek (selects bits.now) (bits.now.len - mark) mark residual) }
+{
+    match bits.seek_from(mark, residual) {
+        Some(found) => Ok(found.position),
+        None => Err(Refusal::CellsUnlawful),
+    }
+}
+
 // Step 7. A selected mark with none to pass is found by its one bit, before any word is counted.
 #[inline(always)]
 fn seek_mark(bits: &Record<'_>, mark: u64, residual: u64) -> Result<u64, Refusal>
@@ -29,10 +41,7 @@ fn seek_mark(bits: &Record<'_>, mark: u64, residual: u64) -> Result<u64, Refusal
     if residual == 0 && is_selected(bits.words, bits.polarity, mark) {
         return Ok(mark);
     }
-    match bits.seek_from(mark, residual) {
-        Some(found) => Ok(found.position),
-        None => Err(Refusal::CellsUnlawful),
-    }
+    seek_past(bits, mark, residual)
 }
 
 impl Index<'_> {

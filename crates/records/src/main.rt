@@ -43,7 +43,11 @@ fn show_count(
 
 fn show_in_word(rt: &impl Print, word: u64, rank: u64) -> io::Result<()> {
     print!(rt; "in word {word:#x}, rank {rank}: ")?;
-    show(rt, select_in_word(word, rank))
+    end(
+        rt,
+        select_in_word(word, rank),
+        |one| println!(rt; "position {}, remaining {}", one.position, one.remaining),
+    )
 }
 
 fn end_planned(rt: &impl Print, p: Parameters) -> io::Result<()> {
@@ -106,6 +110,7 @@ fn in_words(rt: &impl Print) -> io::Result<()> {
     show_in_word(rt, 0x8000_0000_8000_0000, 0)?;
     show_in_word(rt, 0x8000_0000_8000_0000, 1)?;
     show_in_word(rt, 0x252, 1)?;
+    show_in_word(rt, 0x252, 3)?;
     show_in_word(rt, 0x252, 4)?;
     show_in_word(rt, 0, 0)?;
     show_in_word(rt, u64::MAX, 63)?;

@@ -1,8 +1,8 @@
--- The first two ones of a word: below the lowest stand its trailing zeros, and the next is the lowest of what lies above it.
+-- The lowest one of a word: below it stand the trailing zeros. The next one above a place is the lowest of what lies above it.
 use mathlib.Core.Bool.{true, false}
 use mathlib.Core.Logic.{⊎_elim}
 use mathlib.Core.Path.{◌≡◌, sym, ap, ◌∙◌}
-use Prim.Native.Nat.{ℕ, zero, suc, ◌+◌, ◌/◌, ◌%◌, ◌^◌, ◌≤◌, ◌<◌}
+use Prim.Native.Nat.{ℕ, zero, suc, ◌+◌, ◌-◌, ◌/◌, ◌%◌, ◌^◌, ◌≤◌, ◌<◌}
 use native.Mathlib.Nat.{pow-suc}
 use native.Mathlib.Omega.{arith}
 use lib.Count.{count_trailing_zeros}
@@ -11,7 +11,9 @@ use Rattle.rank_sel.specs.Seek.{Sought}
 use Rattle.std.proofs.lemmas.Bool.{cases_lt}
 use Rattle.rank_sel.proofs.Rank.{rank-zero, rank_one, rank_same, rank_add, rank_ext}
 use Rattle.select_in_word.specs.Bit.{bit}
-use Rattle.select_in_word.proofs.Bit.{two_cases, bit-zero, bit_shr, bit-suc, bit_past}
+use Rattle.select_in_word.specs.Select.{OneAbove, ones_above}
+use Rattle.select_in_word.proofs.Bit.{two_cases, bit-zero, bit-suc, bit_past}
+use Rattle.select_in_word.proofs.Select.{rest, rest_bit, rest_rank}
 
 pub first_sought : (k w : ℕ) → w < 2 ^ k → 0 < w → Sought (bit w) k 0 0 (count_trailing_zeros k w)
 unfolding count_trailing_zeros
@@ -41,23 +43,17 @@ first_sought (suc k) w h l =
               ∙ omega (arith, a, b, rank_same (bit w) 0 z, rank-zero (bit w), rank-zero (bit (w / 2)), s.before);
         }
 
--- the second, where v has what lies above the first
-pub second_sought : (w v t u : ℕ) → w < 2 ^ 64 → v ≡ w / 2 ^ t / 2 ^ 1 → Sought (bit w) 64 0 0 t → Sought (bit v) 64 0 0 u
-    → Sought (bit w) 64 0 1 (t + 1 + u)
-second_sought w v t u h e s r =
-    let d : (j : ℕ) → bit v j ≡ bit w (t + 1 + j) = λ j.
-    ap (λ (x : ℕ). bit x j) e ∙ bit_shr (w / 2 ^ t) 1 j ∙ bit_shr w t (1 + j) ∙ ap (bit w) (omega arith) in
-    let here : bit w (t + 1 + u) ≡ true = sym (d u) ∙ r.here in
-    let a = rank_add (bit w) (t + 1) u in
-    let b = rank_ext (λ j. bit w (t + 1 + j)) (bit v) u (λ q g. sym (d q)) in
-    let c = rank_one (bit w) t s.here in
-    let f : rank (bit w) (t + 1) ≡ rank (bit w) t + 1 = ap (rank (bit w)) (omega arith) ∙ c in
+-- the next one above a place is the lowest of what lies above it
+pub next_above : (w p t : ℕ) → w < 2 ^ 64 → p < 64 → Sought (bit (rest w p)) 64 0 0 t → OneAbove w (ones_above w p - 1) (p + 1 + t)
+next_above w p t h l s =
+    let e : p + 1 + t ≡ suc p + t = omega arith in
+    let here : bit w (p + 1 + t) ≡ true = ap (bit w) e ∙ sym (rest_bit w p t) ∙ s.here in
+    let r : rank (bit w) (p + 1 + t) ≡ rank (bit w) (suc p) = ap (rank (bit w)) e ∙ omega (arith, rest_rank w p t, s.before, rank-zero (bit (rest w p))) in
     record {
-      low = omega arith;
-      high =
-          ⊎_elim (λ (g : t + 1 + u < 64). omega arith)
-          (λ (g : 64 ≤ t + 1 + u). let n = bit_past w 64 (t + 1 + u) h g in cc)
-          (cases_lt (t + 1 + u) 64);
+      low =
+          ⊎_elim (λ (g : p + 1 + t < 64). g)
+          (λ (g : 64 ≤ p + 1 + t). let n = bit_past w 64 (p + 1 + t) h g in cc)
+          (cases_lt (p + 1 + t) 64);
       here = here;
-      before = omega (arith, a, b, f, s.before, r.before, rank-zero (bit w), rank-zero (bit v));
+      above = omega (arith, r, rank_one (bit w) (p + 1 + t) here);
     }

@@ -1,7 +1,7 @@
 // One word: in-word select by the byte table, the same by sums over bytes, and the masks of a record's last word.
 #![tactic(auto)]
 
-ghost use Rattle.std.specs.Prelude.{cond, ◌≡◌, ℕ, suc, ◌*◌, ◌%◌, ◌^◌, ◌<◌};
+ghost use Rattle.std.specs.Prelude.{cond, ◌≡◌, ℕ, suc, ◌-◌, ◌*◌, ◌%◌, ◌^◌, ◌≤◌, ◌<◌};
 ghost use Rattle.std.specs.Int.Bits.{bit_and};
 ghost use Rattle.std.specs.Int.Count.{ones};
 ghost use Rattle.rank_sel.specs.Numbers.{sum};
@@ -9,8 +9,8 @@ ghost use Rattle.rank_sel.specs.Outcome.{outcome};
 ghost use Rattle.rank_sel.specs.Rank.{ind};
 ghost use Rattle.rank_sel.specs.Seek.{Sought};
 ghost use Rattle.select_in_word.specs.Bit.{bit};
-ghost use Rattle.select_in_word.specs.Bytes.{byte_of, Bytes, first_above};
-ghost use Rattle.select_in_word.specs.Select.{Counts, said, seek_in_word, select_in_byte, select_in_word};
+ghost use Rattle.select_in_word.specs.Bytes.{byte_of, Bytes, ByteSums, first_above};
+ghost use Rattle.select_in_word.specs.Select.{Counts, OneAbove, ones_above, said, seek_in_word, select_in_byte, select_in_word};
 ghost use Rattle.select_in_word.specs.Tail.{tail_mask};
 
 mod byte_table;
@@ -18,11 +18,26 @@ mod byte_table;
 use byte_table::SELECT_IN_BYTE;
 use rank_sel::Refusal;
 
+// A one of a word, and how many ones remain above it.
+#[derive(Clone, Copy, Debug, PartialEq, Eq)]
+pub struct One {
+    pub position: u64,
+    pub remaining: u64,
+}
+
 // How many ones a word has.
 pub fn count_ones(word: u64) -> u64
     ensures { Counts word result }
 {
     u64::count_ones(word) as u64
+}
+
+// How many ones a word has above a place.
+pub fn ones_above(word: u64, position: u64) -> u64
+    requires { position < 64 }
+    ensures { result ≡ ones_above word position }
+{
+    count_ones((word >> position) >> 1)
 }
 
 fn select_in_byte(byte: u64, rank: u64) -> u64
@@ -33,18 +48,23 @@ fn select_in_byte(byte: u64, rank: u64) -> u64
 }
 
 // Through the bytes and the table.
-pub fn select_in_word(word: u64, rank: u64) -> Result<u64, Refusal>
+pub fn select_in_word(word: u64, rank: u64) -> Result<One, Refusal>
     ensures { outcome result ≡ select_in_word word rank }
 {
-    let mut remaining = rank;
+    let mut left = rank;
     for i in 0..8 {
         let at = 8 * i;
         let byte = (word >> at) & 255;
         let ones = count_ones(byte);
-        if remaining < ones {
-            return Ok(at + select_in_byte(byte, remaining));
+        if left < ones {
+            let position = at + select_in_byte(byte, left);
+            let remaining = ones_above(word, position);
+            return Ok(One {
+                position,
+                remaining,
+            });
         }
-        remaining -= ones;
+        left -= ones;
     }
     Err(Refusal::RankTooLarge)
 }
@@ -79,35 +99,90 @@ fn running_sums(bytes: u64) -> u64
 // 8 times the number of the first byte above k: one subtraction for all bytes leaves the top bit of those.
 fn first_above(sums: u64, k: u64) -> u64
     requires { (k < 127) × ((j : ℕ) → j < 8 → byte_of sums j < 128) }
-    ensures { result ≡ 8 * first_above sums k }
+    ensures { result ≡ 8 * first_above 8 sums k }
 {
     let apart = (sums | 0x8080_8080_8080_8080) - (k + 1) * 0x0101_0101_0101_0101;
     u64::trailing_zeros((apart >> 7) & 0x0101_0101_0101_0101) as u64
 }
 
-// Bit j of a byte, in byte j.
-fn spread(byte: u64) -> u64
-    requires { byte < 256 }
-    ensures { Bytes (λ j. ind (bit byte j)) result }
+// The number of the first of bytes 0 to 6 above k, or 7: as in `first_above`, but byte 7 always ends the search.
+fn first_above_low(sums: u64, k: u64) -> u64
+    requires { (k < 127) × ((j : ℕ) → j < 8 → byte_of sums j < 128) }
+    ensures { result ≡ first_above 7 sums k }
 {
-    let own = (byte * 0x0101_0101_0101_0101) & 0x8040_2010_0804_0201;
-    ((own + 0x7f7f_7f7f_7f7f_7f7f) >> 7) & 0x0101_0101_0101_0101
+    let low = (sums | 0x8080_8080_8080_8080) - (k + 1) * 0x0101_0101_0101_0101;
+    u64::trailing_zeros((low | 0x8000_0000_0000_0000) & 0x8080_8080_8080_8080) as u64 / 8
 }
 
-// The one with exactly k ones below it, by sums over bytes (Vigna, "Broadword implementation of rank/select queries"); the
-// error is how many ones the word has where these are too few.
-pub fn seek_in_word(word: u64, k: u64) -> Result<u64, u64>
+// Bit j of a number below 128, in byte j. The factor has a one at every seventh bit, 0 to 42, so that bit i of copy j comes to
+// 7 * j + i: no two in one place, no carry. Place 8 * j is bit j of copy j alone.
+fn spread_low(bits: u64) -> u64
+    requires { bits < 128 }
+    ensures { Bytes (λ j. ind (bit bits j)) result }
+{
+    (bits * 0x0408_1020_4081) & 0x0001_0101_0101_0101
+}
+
+// In each byte, the ones of the bytes up to it: the top byte has all of the word's.
+fn byte_sums(word: u64) -> u64
+    ensures { ByteSums word result }
+{
+    running_sums(byte_ones(word))
+}
+
+// The one with exactly k ones below it, of a word with these byte sums that has more than k (Vigna, "Broadword implementation
+// of rank/select queries"). Within the byte bits 0 to 6 are enough: a one that is none of these is bit 7.
+fn one_by(word: u64, sums: u64, k: u64) -> u64
+    requires { ByteSums word sums × (k < ones word) }
+    ensures { Sought (bit word) 64 0 k result }
+{
+    let at = first_above(sums, k);
+    let before = ((sums << 8) >> at) & 255;
+    let inner = running_sums(spread_low((word >> at) & 127));
+    at + first_above_low(inner, k - before)
+}
+
+// The one with exactly k ones below it, by sums over bytes; the error is how many ones the word has where these are too few.
+// What remains above it is known before its position is.
+pub fn seek_in_word(word: u64, k: u64) -> Result<One, u64>
     ensures { said result ≡ seek_in_word word k }
 {
-    let sums = running_sums(byte_ones(word));
+    let sums = byte_sums(word);
     let ones = sums >> 56;
     if ones <= k {
         return Err(ones);
     }
-    let at = first_above(sums, k);
-    let before = ((sums << 8) >> at) & 255;
-    let inner = running_sums(spread((word >> at) & 255));
-    Ok(at + first_above(inner, k - before) / 8)
+    let position = one_by(word, sums, k);
+    let remaining = ones - k - 1;
+    Ok(One {
+        position,
+        remaining,
+    })
+}
+
+// The same where bit 0 is likely to be the one: it is found without sums.
+#[inline(always)]
+pub fn seek_near(word: u64, k: u64) -> Result<One, u64>
+    ensures { said result ≡ seek_in_word word k }
+{
+    if k == 0 && word % 2 == 1 {
+        let remaining = ones_above(word, 0);
+        return Ok(One {
+            position: 0,
+            remaining,
+        });
+    }
+    seek_in_word(word, k)
+}
+
+// The one that so many remain above.
+fn one_above(word: u64, remaining: u64) -> u64
+    requires { remaining < ones word }
+    ensures { OneAbove word remaining result }
+{
+    let sums = byte_sums(word);
+    let ones = sums >> 56;
+    one_by(word, sums, ones - remaining - 1)
 }
 
 // The lowest one.
@@ -118,23 +193,33 @@ fn first_one(word: u64) -> u64
     u64::trailing_zeros(word) as u64
 }
 
-// The same where few ones are likely to be passed: the first two are found without sums.
-pub fn seek_near(word: u64, k: u64) -> Result<u64, u64>
-    ensures { said result ≡ seek_in_word word k }
+// The next one above a place.
+fn next_one(word: u64, position: u64) -> u64
+    requires { (position < 64) × (0 < ones_above word position) }
+    ensures { OneAbove word (ones_above word position - 1) result }
 {
-    if k < 2 {
-        if word != 0 {
-            let first = first_one(word);
-            if k == 0 {
-                return Ok(first);
-            }
-            let rest = (word >> first) >> 1;
-            if rest != 0 {
-                return Ok(first + 1 + first_one(rest));
-            }
-        }
+    position + 1 + first_one((word >> position) >> 1)
+}
+
+// The one that is `by` ones above another: these are taken off what remains, and nothing is counted. The next one is found without
+// sums.
+pub fn one_on(word: u64, one: One, by: u64) -> One
+    requires { OneAbove word one.remaining one.position × (by ≤ one.remaining) }
+    ensures { OneAbove word result.remaining result.position × (result.remaining ≡ one.remaining - by) }
+{
+    let remaining = one.remaining - by;
+    if by == 1 {
+        let position = next_one(word, one.position);
+        return One {
+            position,
+            remaining,
+        };
     }
-    seek_in_word(word, k)
+    let position = one_above(word, remaining);
+    One {
+        position,
+        remaining,
+    }
 }
 
 // Keeps the low `residual` bits of a word, or all 64 for 0: then the last word is full.

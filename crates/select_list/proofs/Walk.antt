@@ -95,9 +95,9 @@ step_kept ws t inv sp last r total x h e =
     from_kept f t.plan.len last r total h x a.0.exact a.0 (mark_low t inv sp r a.0 a.1) a.2
 
 -- what is in hand for a rank is so for any later one
-hand_later : (f : ℕ → Bool) (len r q : ℕ) (h : std.Option Hand) → HandIn f len r h → r ≤ q → HandIn f len q h
-hand_later f len r q std.None i l = tt
-hand_later f len r q (std.Some h) i l = record { low = i.low; before = omega (arith, i.before, l); word = i.word }
+hand_later : (f : ℕ → Bool) (r q : ℕ) (h : std.Option Hand) → HandIn f r h → r ≤ q → HandIn f q h
+hand_later f r q std.None i l = tt
+hand_later f r q (std.Some h) i l = record { before = omega (arith, i.before, l); bit = i.bit }
 
 -- ---- after i ranks
 module _ (ws : List ℕ) (t : Summary) (inv sp ranks : List ℕ) where
@@ -118,7 +118,7 @@ module _ (ws : List ℕ) (t : Summary) (inv sp ranks : List ℕ) where
       pub within : i ≤ length ranks
       pub goes : whole ≡ walk ws t inv sp (record { positions = positions; total = total; last = last_of h }) (drop i ranks)
       pub counted : Total t.plan.len (last_of h) total
-      pub hand : i < length ranks → HandIn f t.plan.len (get_or ranks i 0) h
+      pub hand : i < length ranks → HandIn f (get_or ranks i 0) h
       pub places : l ≡ written (map sample positions) l₀
 
     pub stands_first : Stands l₀ std.None 0 0
@@ -157,14 +157,14 @@ module _ (ws : List ℕ) (t : Summary) (inv sp ranks : List ℕ) where
             ∙ ap (walk ws t inv sp here) (drop-cons ranks i 0 g)
             ∙ ap (λ (p : Outcome Step). and_then p (λ y. walk ws t inv sp (after here y) (drop (suc i) ranks))) (sym told)
 
-        pub stands_refused : (e : Refusal) → Advances f t.plan.len (get_or ranks i 0) step (Err e) → (x : Result ℕ Refusal)
+        pub stands_refused : (e : Refusal) → Advances f (get_or ranks i 0) step (Err e) → (x : Result ℕ Refusal)
             → IsErr x × IsErrAnd x (λ z. z ≡ e) → Wrote t.origin whole l₀ l x
         stands_refused e a (Err z) k =
             let q : whole ≡ refused (number_of e) = walk_next (refused (number_of e)) a.told in
             record { told = ap (λ (y : Refusal). refused (number_of y)) k.1 ∙ rw q; places = λ w d. cc }
         stands_refused e a (Ok z) k = absurd k.1
 
-        module _ (y : Advance) (taken : Advances f t.plan.len (get_or ranks i 0) step (Ok y)) where
+        module _ (y : Advance) (taken : Advances f (get_or ranks i 0) step (Ok y)) where
           kept : Kept t.plan.len total (step_by y)
           kept = step_kept ws t inv sp (last_of h) (get_or ranks i 0) total (step_by y) s.counted taken.told
 
@@ -182,7 +182,7 @@ module _ (ws : List ℕ) (t : Summary) (inv sp ranks : List ℕ) where
             within = omega arith;
             goes = rw (add-one i) (walk_next (answer (step_by y)) taken.told);
             counted = kept.0;
-            hand = λ j. hand_later f t.plan.len (get_or ranks i 0) (get_or ranks (i + 1) 0) y.hand taken.hand (k.rising i j);
+            hand = λ j. hand_later f (get_or ranks i 0) (get_or ranks (i + 1) 0) y.hand taken.hand (k.rising i j);
             places =
                 el
                 ∙ ap (λ (z : List ℕ). set z i (sample y.position)) s.places

@@ -1,44 +1,55 @@
 -- What the values that the list's code hands on stand for, in the words of Step and List.
 use Rattle.std.specs.Prelude as std
-use Rattle.std.specs.Prelude.{Bool, not, List, [], ◌∷◌, ◌≡◌, ℕ, ◌*◌, ◌/◌, ◌≤◌, ◌<◌, length, get_or, Result, Ok, Err, IfSome}
+use Rattle.std.specs.Int.{from_bool}
+use Rattle.std.specs.Prelude.{Bool, not, List, [], ◌∷◌, ◌≡◌, ℕ, ◌+◌, ◌-◌, ◌*◌, ◌/◌, ◌^◌, ◌≤◌, ◌<◌, length, get_or, Result, Ok, Err, IfSome}
 use Rattle.std.proofs.Math.Option.{Option, none, some}
 use Rattle.rank_sel.specs.Outcome.{Outcome, answer, and_then, outcome}
 use Rattle.rank_sel.specs.declared.Refusal.{Refusal}
+use Rattle.rank_sel.specs.declared.Refusal.TheVariants.{CellsUnlawful}
 use Rattle.select_in_word.specs.Holds.{Holds}
-use Rattle.read_inventory.specs.Read.{Mark}
+use Rattle.bit_record.specs.Record.{FoundIn}
+use Rattle.bit_record.specs.declared.seeks.Found.{Found}
 use Rattle.select_list.specs.List.{Walk, NeverFalls, Listed, samples_from, total_of, places_after}
-use Rattle.select_list.specs.Step.{Reached, Start, start_of, in_hand, Step, read_from}
+use Rattle.select_list.specs.Step.{Reached, Start, in_hand, Step}
 use Rattle.select_list.specs.declared.step.Advance.{Advance}
 use Rattle.select_list.specs.declared.step.Hand.{Hand}
-use Rattle.select_list.specs.declared.step.StartAt.{StartAt}
+use Rattle.select_list.specs.declared.step.MarkWord.{MarkWord}
 
 -- ---- one rank
 abbrev pub last_of : std.Option Hand → Option Reached
-last_of (std.Some h) = some (record { at = h.at; rank = h.rank })
+last_of (std.Some h) = some (record { at = h.bit.position; rank = h.rank })
 last_of std.None = none
 
--- the last bit lies in the record, a rank up to r reached it, and its word is in hand
-pub record Held (f : ℕ → Bool) (len r : ℕ) (h : Hand) : Type 0 where
-  pub low : h.at < len
+-- the last bit is the record's
+abbrev pub BitIn : (ℕ → Bool) → std.Option Hand → Type 0
+BitIn f hand = IfSome hand (λ h. FoundIn f h.bit)
+
+-- and a rank up to r reached it
+pub record Held (f : ℕ → Bool) (r : ℕ) (h : Hand) : Type 0 where
   pub before : h.rank ≤ r
-  pub word : Holds 64 f (64 * (h.at / 64)) h.word
+  pub bit : FoundIn f h.bit
 
-abbrev pub HandIn : (ℕ → Bool) → ℕ → ℕ → std.Option Hand → Type 0
-HandIn f len r hand = IfSome hand (Held f len r)
+abbrev pub HandIn : (ℕ → Bool) → ℕ → std.Option Hand → Type 0
+HandIn f r hand = IfSome hand (Held f r)
 
-abbrev pub start_as : StartAt → Start
-start_as s = record { from = s.from; passes = s.passes }
+-- a place's word, which was read where it was not in hand
+pub record StartWord (f : ℕ → Bool) (last : Option Reached) (at : ℕ) (w : MarkWord) : Type 0 where
+  pub word : Holds 64 f (64 * (at / 64)) w.word
+  pub fresh : w.fresh ≡ not (in_hand last at)
 
--- a reading can begin there, with its word
-pub record Begun (f : ℕ → Bool) (len : ℕ) (s : StartAt) : Type 0 where
-  pub low : s.from < len
-  pub word : Holds 64 f (64 * (s.from / 64)) s.word
+-- from the last bit on
+abbrev pub from_last : Hand → ℕ → Start
+from_last h r = record { from = h.bit.position; passes = r - h.rank }
 
--- rank r's reading begins there; its word was read where it was not in hand
-pub record Starts (f : ℕ → Bool) (len : ℕ) (last : Option Reached) (r : ℕ) (m : Mark) (s : StartAt) : Type 0 where
-  pub start : start_as s ≡ start_of last r m
-  pub begun : Begun f len s
-  pub fresh : s.fresh ≡ not (in_hand last s.from)
+-- a bit in from's word or after it
+abbrev pub Reachable : ℕ → std.Option Found → Type 0
+Reachable from found = IfSome found (λ b. (from / 64 ≤ b.index) × (b.index < 2 ^ 62))
+
+-- rank r's reading from there on, by the bit it found
+abbrev pub reached_as : std.Option Found → ℕ → ℕ → Bool → Result Advance Refusal
+reached_as (std.Some b) r from fresh =
+    Ok (record { position = b.position; words = b.index - from / 64 + from_bool fresh; hand = std.Some (record { bit = b; rank = r }) })
+reached_as std.None r from fresh = Err CellsUnlawful
 
 abbrev pub step_by : Advance → Step
 step_by x = record { position = x.position; words = x.words; last = last_of x.hand }
@@ -46,19 +57,14 @@ step_by x = record { position = x.position; words = x.words; last = last_of x.ha
 abbrev pub stepped : Result Advance Refusal → Outcome Step
 stepped x = and_then (outcome x) (λ y. answer (step_by y))
 
-abbrev pub HandAfter : (ℕ → Bool) → ℕ → ℕ → Result Advance Refusal → Type 0
-HandAfter f len r (Ok x) = HandIn f len r x.hand
-HandAfter f len r (Err e) = Unit {0}
+abbrev pub HandAfter : (ℕ → Bool) → ℕ → Result Advance Refusal → Type 0
+HandAfter f r (Ok x) = HandIn f r x.hand
+HandAfter f r (Err e) = Unit {0}
 
 -- rank r's step is told, and what is in hand after it is so too
-pub record Advances (f : ℕ → Bool) (len r : ℕ) (o : Outcome Step) (x : Result Advance Refusal) : Type 0 where
+pub record Advances (f : ℕ → Bool) (r : ℕ) (o : Outcome Step) (x : Result Advance Refusal) : Type 0 where
   pub told : stepped x ≡ o
-  pub hand : HandAfter f len r x
-
--- it is the reading from there on, whatever the last bit, as long as the start's word was read where it was not in hand
-abbrev pub Reads : (ℕ → Bool) → ℕ → ℕ → StartAt → Result Advance Refusal → Type 0
-Reads f len r s x =
-    (last : Option Reached) → s.fresh ≡ not (in_hand last s.from) → Advances f len r (read_from f len last r (start_as s)) x
+  pub hand : HandAfter f r x
 
 -- ---- the walk
 -- each rank is below N, and none below the one before it

@@ -3,27 +3,23 @@ ghost use Rattle.std.specs.Prelude.{◌≡◌, ◌<◌};
 ghost use Rattle.bit_record.specs.Record.{selected};
 ghost use Rattle.bit_record.specs.Selects.{selects};
 ghost use Rattle.spacing.specs.Spacing.{N};
-ghost use Rattle.select_list.specs.Hand.{Advances, Begun, HandIn, Reads, Starts, last_of};
-ghost use Rattle.select_list.specs.Step.{step_of};
+ghost use Rattle.select_list.specs.Hand.{Advances, BitIn, HandIn, Held, Reachable, StartWord, from_last, last_of, reached_as};
+ghost use Rattle.select_list.specs.Step.{from_mark, read_from as reading_from, step_of};
 
-use bit_record::{Record, selected_word};
+use bit_record::{Found, Record, selected_word};
 use rank_sel::Refusal;
 use read_inventory::{Index, Mark};
 
-// The last bit reached by reading: its place, the list's rank that reached it, and its word.
+// The last bit reached by reading, and the list's rank that reached it.
 #[derive(Clone, Copy)]
 pub(crate) struct Hand {
-    pub(crate) at: u64,
+    pub(crate) bit: Found,
     pub(crate) rank: u64,
-    pub(crate) word: u64,
 }
 
-// Where a reading starts, how many selected bits it passes, the word there, and whether that had to be read: there is a word
-// either way.
+// A mark's word, and whether it had to be read: there is a word either way.
 #[derive(Clone, Copy)]
-pub(crate) struct StartAt {
-    pub(crate) from: u64,
-    pub(crate) passes: u64,
+pub(crate) struct MarkWord {
     pub(crate) word: u64,
     pub(crate) fresh: bool,
 }
@@ -36,58 +32,72 @@ pub(crate) struct Advance {
     pub(crate) hand: Option<Hand>,
 }
 
-// The later of the mark and the last bit. The word in hand is not read again.
-fn start_of(bits: &Record<'_>, hand: Option<Hand>, rank: u64, mark: Mark) -> StartAt
-    requires { HandIn (selects bits.now) bits.now.len rank hand × (mark.at < bits.now.len) }
-    ensures { Starts (selects bits.now) bits.now.len (last_of hand) rank mark result }
+// The word in hand is not read again.
+#[inline(always)]
+fn word_of(bits: &Record<'_>, hand: Option<Hand>, at: u64) -> MarkWord
+    requires { BitIn (selects bits.now) hand × (at < bits.now.len) }
+    ensures { StartWord (selects bits.now) (last_of hand) at result }
 {
     match hand {
-        Some(last) if mark.at < last.at => StartAt {
-            from: last.at,
-            passes: rank - last.rank,
-            word: last.word,
+        Some(last) if at / 64 == last.bit.index => MarkWord {
+            word: last.bit.word,
             fresh: false,
         },
-        Some(last) if mark.at / 64 == last.at / 64 => StartAt {
-            from: mark.at,
-            passes: mark.residual,
-            word: last.word,
-            fresh: false,
-        },
-        _ => StartAt {
-            from: mark.at,
-            passes: mark.residual,
-            word: selected_word(bits.words, (mark.at / 64) as usize, bits.len, bits.polarity),
+        _ => MarkWord {
+            word: selected_word(bits.words, (at / 64) as usize, bits.len, bits.polarity),
             fresh: true,
         },
     }
 }
 
-fn read_from(bits: &Record<'_>, rank: u64, start: StartAt) -> Result<Advance, Refusal>
-    requires { Begun (selects bits.now) bits.now.len start }
-    ensures { Reads (selects bits.now) bits.now.len rank start result }
+// What a reading from `from` on tells of the bit it found.
+#[inline(always)]
+fn reached(found: Option<Found>, rank: u64, from: u64, fresh: bool) -> Result<Advance, Refusal>
+    requires { Reachable from found }
+    ensures { result ≡ reached_as found rank from fresh }
 {
-    let from = start.from;
-    let Some(found) = bits.seek_on(from, start.word, start.passes) else {
+    let Some(bit) = found else {
         return Err(Refusal::CellsUnlawful);
     };
-    let at = found.position;
-    let hand = Hand {
-        at,
-        rank,
-        word: found.word,
-    };
     Ok(Advance {
-        position: at,
-        words: at / 64 - from / 64 + u64::from(start.fresh),
-        hand: Some(hand),
+        position: bit.position,
+        words: bit.index - from / 64 + u64::from(fresh),
+        hand: Some(Hand { bit, rank }),
     })
 }
 
-// The record is made where a reading needs it: an exact mark needs none.
+// From the last bit on, where it lies behind the mark: its word is in hand, with what remains there.
+#[inline(always)]
+fn read_on(bits: &Record<'_>, last: Hand, rank: u64) -> Result<Advance, Refusal>
+    requires { Held (selects bits.now) rank last }
+    ensures { Advances (selects bits.now) rank (reading_from (selects bits.now) bits.now.len (last_of (Some last)) rank (from_last last rank)) result }
+{
+    let found = bits.seek_on(last.bit, rank - last.rank);
+    reached(found, rank, last.bit.position, false)
+}
+
+// From the mark on.
+#[inline(always)]
+fn read_from(
+    bits: &Record<'_>,
+    hand: Option<Hand>,
+    rank: u64,
+    mark: Mark,
+) -> Result<Advance, Refusal>
+    requires { BitIn (selects bits.now) hand × (mark.at < bits.now.len) }
+    ensures { Advances (selects bits.now) rank (reading_from (selects bits.now) bits.now.len (last_of hand) rank (from_mark mark)) result }
+{
+    let start = word_of(bits, hand, mark.at);
+    let found = bits.seek_with(mark.at, start.word, mark.residual);
+    reached(found, rank, mark.at, start.fresh)
+}
+
+// A reading starts at the later of the mark and the last bit. The record is made where a reading needs it: an exact mark needs
+// none. All of a step is inlined: a last bit that goes through memory is waited for.
+#[inline(always)]
 pub(crate) fn step_to(index: &Index<'_>, hand: Option<Hand>, rank: u64) -> Result<Advance, Refusal>
-    requires { (rank < N index.now.cells.summary.plan) × HandIn (selected index.now.cells.summary.plan.polarity index.now.words.now index.now.cells.summary.plan.len) index.now.cells.summary.plan.len rank hand }
-    ensures { Advances (selected index.now.cells.summary.plan.polarity index.now.words.now index.now.cells.summary.plan.len) index.now.cells.summary.plan.len rank (step_of index.now.words.now index.now.cells.summary index.now.cells.inventory.now index.now.cells.spill.now (last_of hand) rank) result }
+    requires { (rank < N index.now.cells.summary.plan) × HandIn (selected index.now.cells.summary.plan.polarity index.now.words.now index.now.cells.summary.plan.len) rank hand }
+    ensures { Advances (selected index.now.cells.summary.plan.polarity index.now.words.now index.now.cells.summary.plan.len) rank (step_of index.now.words.now index.now.cells.summary index.now.cells.inventory.now index.now.cells.spill.now (last_of hand) rank) result }
 {
     let mark = index.cells.mark_of(rank)?;
     if mark.exact {
@@ -98,6 +108,8 @@ pub(crate) fn step_to(index: &Index<'_>, hand: Option<Hand>, rank: u64) -> Resul
         });
     }
     let record = index.cells.summary.plan.record(index.words);
-    let start = start_of(&record, hand, rank, mark);
-    read_from(&record, rank, start)
+    match hand {
+        Some(last) if mark.at < last.bit.position => read_on(&record, last, rank),
+        _ => read_from(&record, hand, rank, mark),
+    }
 }

@@ -1,5 +1,5 @@
--- The rank at byte i and what remains make the rank asked for: a byte with more ones than remain has the position by the table,
--- any other is passed. Past the last the rank is too large.
+-- The rank at byte i and what is left to pass make the rank asked for: a byte with more ones has the position by the table, any
+-- other is passed. Past the last the rank is too large.
 use mathlib.Core.Path.{◌≡◌}
 use Prim.Native.Nat.{◌+◌, ◌*◌}
 use Rattle.rank_sel.specs.Rank.{rank as ranks}
@@ -7,4 +7,4 @@ use Rattle.select_in_word.specs.Bit.{bit}
 use Rattle.select_in_word.proofs.select_in_word.Given as goal
 
 abbrev pub invariant-loop-i : goal.invariant-loop-i
-invariant-loop-i l = ranks (bit l.word) (8 * l.i) + l.remaining ≡ l.rank
+invariant-loop-i l = ranks (bit l.word) (8 * l.i) + l.left ≡ l.rank

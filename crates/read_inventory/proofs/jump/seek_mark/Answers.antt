@@ -1,4 +1,4 @@
--- A selected mark with none to pass is itself what is sought (`record_at`); else the answer is what `seek_from` finds.
+-- A selected mark with none to pass is itself what is sought (`record_at`); else `seek_past` says.
 use mathlib.Core.Path.{sym, ap, ◌∙◌}
 use native.Mathlib.Omega.{arith}
 use Rattle.rank_sel.specs.Outcome.{or_refuse}

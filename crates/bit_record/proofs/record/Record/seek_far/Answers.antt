@@ -58,8 +58,8 @@ returns-then-remaining-ones c =
     let a = c.args in
     let r = a.self.now in
     let l = c.loop-block in
-    finds_on r.polarity r.words.now r.len a.from a.k (64 * (a.from / 64 + 8 * l.block)) l.remaining c.seek_from.result (omega arith)
-    l.invariant c.seek_from.ensures
+    finds_on r.polarity r.words.now r.len a.from a.k (64 * (a.from / 64 + 8 * l.block)) l.remaining c.seek_words.result (omega arith)
+    l.invariant c.seek_words.ensures
 
 pub loop-block-preserved : goal.loop-block-preserved
 loop-block-preserved c =
@@ -79,5 +79,5 @@ returns c =
     let f = selects r in
     let blocks = (r.len / 64 - a.from / 64) / 8 in
     let e : rank f (64 * (a.from / 64 + 8 * blocks)) ≡ rank f (64 * (a.from / 64 + 8 * l.block)) = ap (rank f) (omega arith) in
-    finds_on r.polarity r.words.now r.len a.from a.k _ l.remaining c.seek_from-2.result (omega arith) (omega (arith, e, l.invariant))
-    c.seek_from-2.ensures
+    finds_on r.polarity r.words.now r.len a.from a.k _ l.remaining c.seek_words-2.result (omega arith) (omega (arith, e, l.invariant))
+    c.seek_words-2.ensures
