@@ -5,4 +5,10 @@ set -eu
 mkdir -p target/staticlib
 log=target/staticlib/rt.log
 (cd crates/edge_index_c_c && rt lib) >"$log" 2>&1 || { cat "$log"; exit 1; }
-cp crates/edge_index_c_c/out/libedge_index_c_c.a target/staticlib/libedge_index_c.a
+made=crates/edge_index_c_c/out/libedge_index_c_c.a
+# Each function at a multiple of 64: else it lies where the code before it ends, which alone can make a jump a fifth slower.
+if command -v objcopy >/dev/null; then
+    objcopy --set-section-alignment '.text*=64' $made target/staticlib/libedge_index_c.a
+else
+    cp $made target/staticlib/libedge_index_c.a
+fi
