@@ -21,7 +21,7 @@ use Rattle.select_in_word.specs.declared.One.{One}
 use Rattle.select_in_word.proofs.Bit.{bit_past}
 use Rattle.select_in_word.proofs.Holds.{holds_less, holds_ones, holds_rank, holds_sought}
 use Rattle.select_in_word.proofs.Select.{word_seek_found, word_seek_missing}
-use Rattle.bit_record.specs.Record.{selected, FoundIn, Finds}
+use Rattle.bit_record.specs.Record.{selected, FoundIn, found_by, Finds}
 use Rattle.bit_record.specs.Selects.{selects, RecordOf}
 use Rattle.bit_record.specs.declared.Polarity.{Polarity}
 use Rattle.bit_record.specs.declared.record.Record.{Record}
@@ -41,9 +41,6 @@ record_none pol ws len from k p l r =
     (omega (arith, rank_num pol ws len p l, rank_num pol ws len (from + (len - from)) (omega arith))))
 
 -- ---- a one of word i
-abbrev pub found_by : ℕ → ℕ → One → Found
-found_by i w x = record { position = 64 * i + x.position; index = i; word = w; remaining = x.remaining }
-
 -- what remains above it in the word remains in the record's word
 pub found_one : (f : ℕ → Bool) (i w : ℕ) (x : One) → Holds 64 f (64 * i) w → OneAbove w x.remaining x.position → FoundIn f (found_by i w x)
 found_one f i w x held o =

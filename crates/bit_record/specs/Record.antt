@@ -8,6 +8,7 @@ use Rattle.rank_sel.specs.Rank.{rank, rank_between}
 use Rattle.rank_sel.specs.Seek.{seek, select}
 use Rattle.select_in_word.specs.Bit.{bit}
 use Rattle.select_in_word.specs.Holds.{Holds}
+use Rattle.select_in_word.specs.declared.One.{One}
 use Rattle.bit_record.specs.declared.Polarity.{Polarity}
 use Rattle.bit_record.specs.declared.Polarity.TheVariants.{Ones, Zeros}
 use Rattle.bit_record.specs.declared.seeks.Found.{Found}
@@ -70,6 +71,10 @@ pub record FoundIn (f : ℕ → Bool) (r : Found) : Type 0 where
   pub index : r.index ≡ r.position / 64
   pub word : Holds 64 f (64 * r.index) r.word
   pub remaining : r.remaining ≡ rank_between f (suc r.position) (64 * r.index + 64)
+
+-- a one of word i
+abbrev pub found_by : ℕ → ℕ → One → Found
+found_by i w x = record { position = 64 * i + x.position; index = i; word = w; remaining = x.remaining }
 
 -- what is sought among the n positions from x on
 pub record Finds (f : ℕ → Bool) (n x k : ℕ) (r : std.Option Found) : Type 0 where

@@ -1,7 +1,7 @@
 // The seeks in a record.
 ghost use Rattle.std.specs.Prelude.{true, ◌≡◌, ◌+◌, ◌-◌, ◌*◌, ◌/◌, ◌^◌, ◌≤◌, ◌<◌};
 ghost use Rattle.select_in_word.specs.Holds.{Holds};
-ghost use Rattle.bit_record.specs.Record.{Finds, FoundIn};
+ghost use Rattle.bit_record.specs.Record.{Finds, FoundIn, found_by};
 ghost use Rattle.bit_record.specs.Selects.{selects};
 
 use crate::{Record, complement_zeros, count_words, selected_word};
@@ -20,7 +20,7 @@ pub struct Found {
 // A one of word `index`.
 fn found_in(index: u64, word: u64, one: One) -> Found
     requires { (64 * index < 2 ^ 63) × (one.position < 64) }
-    ensures { result ≡ record { position = 64 * index + one.position; index = index; word = word; remaining = one.remaining } }
+    ensures { result ≡ found_by index word one }
 {
     Found {
         position: 64 * index + one.position,

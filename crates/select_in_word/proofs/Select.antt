@@ -29,9 +29,9 @@ byte_sought b r h l =
     let s = seek_some (bit b) 8 0 r (omega (arith, ones_rank 8 b h, rank-zero (bit b))) in
     rw s.1 s.2
 
-pub byte_le : (b r : ℕ) → select_in_byte b r ≤ 8
+pub byte_le : (b r n : ℕ) → n ≡ select_in_byte b r → n ≤ 8
 unfolding select_in_byte
-byte_le b r = go (seek (bit b) 8 0 r) refl
+byte_le b r n d = rw d (go (seek (bit b) 8 0 r) refl)
   where
     go : (s : Option ℕ) → seek (bit b) 8 0 r ≡ s → get_or s 8 ≤ 8
     go (some p) e = let s = seek_found (bit b) 8 0 r p e in omega arith

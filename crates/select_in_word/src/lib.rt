@@ -9,7 +9,7 @@ ghost use Rattle.rank_sel.specs.Outcome.{outcome};
 ghost use Rattle.rank_sel.specs.Rank.{ind};
 ghost use Rattle.rank_sel.specs.Seek.{Sought};
 ghost use Rattle.select_in_word.specs.Bit.{bit};
-ghost use Rattle.select_in_word.specs.Bytes.{byte_of, Bytes, ByteSums, first_above};
+ghost use Rattle.select_in_word.specs.Bytes.{byte_of, Bytes, ByteSums, Tops, first_above};
 ghost use Rattle.select_in_word.specs.Select.{Counts, OneAbove, ones_above, said, seek_in_word, select_in_byte, select_in_word};
 ghost use Rattle.select_in_word.specs.Tail.{tail_mask};
 
@@ -96,22 +96,29 @@ fn running_sums(bytes: u64) -> u64
     quads + (quads << 32)
 }
 
-// 8 times the number of the first byte above k: one subtraction for all bytes leaves the top bit of those.
+// Which bytes are above k, in bit 7 of each: one subtraction for all bytes, none of which borrows.
+fn tops_above(sums: u64, k: u64) -> u64
+    requires { (k < 127) × ((j : ℕ) → j < 8 → byte_of sums j < 128) }
+    ensures { Tops sums k result }
+{
+    (sums | 0x8080_8080_8080_8080) - (k + 1) * 0x0101_0101_0101_0101
+}
+
+// 8 times the number of the first byte above k.
 fn first_above(sums: u64, k: u64) -> u64
     requires { (k < 127) × ((j : ℕ) → j < 8 → byte_of sums j < 128) }
     ensures { result ≡ 8 * first_above 8 sums k }
 {
-    let apart = (sums | 0x8080_8080_8080_8080) - (k + 1) * 0x0101_0101_0101_0101;
-    u64::trailing_zeros((apart >> 7) & 0x0101_0101_0101_0101) as u64
+    u64::trailing_zeros((tops_above(sums, k) >> 7) & 0x0101_0101_0101_0101) as u64
 }
 
-// The number of the first of bytes 0 to 6 above k, or 7: as in `first_above`, but byte 7 always ends the search.
+// The number of the first of bytes 0 to 6 above k, or 7: byte 7 always ends the search.
 fn first_above_low(sums: u64, k: u64) -> u64
     requires { (k < 127) × ((j : ℕ) → j < 8 → byte_of sums j < 128) }
     ensures { result ≡ first_above 7 sums k }
 {
-    let low = (sums | 0x8080_8080_8080_8080) - (k + 1) * 0x0101_0101_0101_0101;
-    u64::trailing_zeros((low | 0x8000_0000_0000_0000) & 0x8080_8080_8080_8080) as u64 / 8
+    let tops = tops_above(sums, k) | 0x8000_0000_0000_0000;
+    u64::trailing_zeros(tops & 0x8080_8080_8080_8080) as u64 / 8
 }
 
 // Bit j of a number below 128, in byte j. The factor has a one at every seventh bit, 0 to 42, so that bit i of copy j comes to

@@ -12,10 +12,12 @@ pub first_one-requires : goal.first_one-requires
 first_one-requires c =
     let a = c.args in
     let r = rest a.word a.position in
+    let some : 0 < r =
     ⊎_elim (λ (l : 0 < r). l)
     (λ (l : r ≤ 0).
     absurd (omega (arith, ones-le 0 r (omega arith), rest_above a.word a.position c.ranges.word.fits c.requires.0, c.requires.1)))
-    (cases_lt 0 r)
+    (cases_lt 0 r) in
+    omega (arith, some)
 
 pub returns : goal.returns
 returns c =

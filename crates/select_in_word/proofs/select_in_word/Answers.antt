@@ -19,8 +19,7 @@ loop-i-init c =
 
 pub overflow_add-position : goal.overflow_add-position
 overflow_add-position c =
-    let w = c.args.word in
-    omega (arith, byte_le (bit_and (w / 2 ^ (8 * c.loop-i.i)) 255) c.loop-i.left, c.select_in_byte.ensures)
+    omega (arith, byte_le _ _ _ c.select_in_byte.ensures)
 
 -- the byte has the one
 module _ (c : After-select_in_byte) where

@@ -1,16 +1,16 @@
 -- The ranks at the position, behind it and at its word's end tell how many selected bits are taken off either way.
 use mathlib.Core.Path.{◌≡◌, ap}
 use mathlib.Core.Logic.{⊎_elim}
-use Prim.Native.Nat.{suc, ◌+◌, ◌-◌, ◌*◌, ◌≤◌, ◌<◌}
+use Prim.Native.Nat.{suc, ◌+◌, ◌*◌, ◌≤◌, ◌<◌}
 use native.Mathlib.Omega.{arith}
 use Rattle.std.proofs.lemmas.Bool.{cases_lt}
 use Rattle.rank_sel.specs.Rank.{rank}
 use Rattle.rank_sel.proofs.Rank.{rank_lt, rank_mono, rank_one}
-use Rattle.bit_record.specs.Record.{FoundIn}
+use Rattle.bit_record.specs.Record.{FoundIn, found_by}
 use Rattle.bit_record.specs.Selects.{selects}
 use Rattle.bit_record.specs.declared.record.Record.{Record}
 use Rattle.bit_record.specs.declared.seeks.Found.{Found}
-use Rattle.bit_record.proofs.Seek.{finds_on, finds_one, found_by, found_one, one_in}
+use Rattle.bit_record.proofs.Seek.{finds_on, finds_one, found_one, one_in}
 use Rattle.bit_record.proofs.Selected.{selected_lt}
 use Rattle.bit_record.proofs.record.Record.seek_on.Goals as goal
 
@@ -30,7 +30,7 @@ returns-then-last-by c =
     let x = a.last in
     let f = selects r in
     let e : rank f (64 * (x.index + 1)) ≡ rank f (64 * x.index + 64) = ap (rank f) (omega arith) in
-    finds_on r.polarity r.words.now r.len x.position a.by (64 * (x.index + 1)) (a.by - x.remaining - 1) c.seek_words.result
+    finds_on r.polarity r.words.now r.len x.position a.by (64 * (x.index + 1)) _ c.seek_words.result
     (low r x c.requires) (omega (arith, e, to_end r x c.requires, c.if-last-by.true)) c.seek_words.ensures
 
 pub one_on-requires : goal.one_on-requires

@@ -14,23 +14,15 @@ use Rattle.bit_record.proofs.Seek.{finds_on, finds_one, word_found, word_passed}
 use Rattle.bit_record.proofs.record.Record.seek_with.Goals.{In-Ok, In-Err}
 use Rattle.bit_record.proofs.record.Record.seek_with.Goals as goal
 
--- what seeking in the rest of the word says
-module _ (from w : ℕ) where
-  abbrev m : ℕ
-  m = 64 - from % 64
-
-  abbrev rest : ℕ
-  rest = w / 2 ^ (from % 64)
-
 -- it has the position
 module _ (c : In-Ok) where
   inside : let a = c.args in
-      Sought (selects a.self.now) (m a.from a.word) a.from a.k (a.from + c.in-Ok.one.position)
+      Sought (selects a.self.now) (64 - a.from % 64) a.from a.k (a.from + c.in-Ok.one.position)
       × OneAbove a.word c.in-Ok.one.remaining (a.from % 64 + c.in-Ok.one.position)
   inside =
       let a = c.args in
       let f = selects a.self.now in
-      let s = word_found (m a.from a.word) f a.from (rest a.from a.word) a.k (omega arith) (holds_from f a.from a.word c.requires.1) c.in-Ok.one c.in-Ok.ensures in
+      let s = word_found (64 - a.from % 64) f a.from (a.word / 2 ^ (a.from % 64)) a.k (omega arith) (holds_from f a.from a.word c.requires.1) c.in-Ok.one c.in-Ok.ensures in
       (s.0, above_shr a.word (a.from % 64) c.in-Ok.one.remaining c.in-Ok.one.position c.ranges.word.fits (omega arith) s.1)
 
 pub overflow_add-position : goal.overflow_add-position
@@ -55,11 +47,11 @@ returns-in-Ok c =
 -- it passes its ones
 module _ (c : In-Err) where
   passed : let a = c.args in
-      (c.in-Err.ones ≤ a.k) × (rank (selects a.self.now) (a.from + m a.from a.word) ≡ rank (selects a.self.now) a.from + c.in-Err.ones)
+      (c.in-Err.ones ≤ a.k) × (rank (selects a.self.now) (a.from + (64 - a.from % 64)) ≡ rank (selects a.self.now) a.from + c.in-Err.ones)
   passed =
       let a = c.args in
       let f = selects a.self.now in
-      word_passed (m a.from a.word) f a.from (rest a.from a.word) a.k (omega arith) (holds_from f a.from a.word c.requires.1) c.in-Err.ones c.in-Err.ensures
+      word_passed (64 - a.from % 64) f a.from (a.word / 2 ^ (a.from % 64)) a.k (omega arith) (holds_from f a.from a.word c.requires.1) c.in-Err.ones c.in-Err.ensures
 
 pub overflow_sub-k : goal.overflow_sub-k
 overflow_sub-k c =
@@ -72,5 +64,5 @@ returns-in-Err c =
     let f = selects r in
     let p = passed (goal.at.returns-in-Err c).In-Err in
     let e : rank f (64 * (a.from / 64 + 1)) ≡ rank f (a.from + (64 - a.from % 64)) = ap (rank f) (omega arith) in
-    finds_on r.polarity r.words.now r.len a.from a.k (64 * (a.from / 64 + 1)) (a.k - c.in-Err.ones) c.seek_words.result c.requires.0
+    finds_on r.polarity r.words.now r.len a.from a.k _ _ c.seek_words.result c.requires.0
     (omega (arith, e, p.0, p.1)) c.seek_words.ensures
