@@ -1,13 +1,14 @@
 /* Decklerose: the edge index, for C. Implemented and proved in crates/edge_index_c; `sh tools/staticlib.sh` writes
  * target/staticlib/libedge_index_c.a, which needs nothing but the C library (of which it calls memset). x86-64 Linux.
  *
- * Every call returns 0, or the number of the refusal that turned it down (1 to 16, below), or EDGE_INDEX_BAD_CODE for a
+ * Every call returns 0, or the number of the refusal that turned it down (1 to 17, below), or EDGE_INDEX_BAD_CODE for a
  * polarity or a kind of choice that is none, which is tested first. On anything but 0 nothing behind a pointer changes.
  *
  * A record is `words_len` words, of which the first `len` bits count: bit p is bit p mod 64, lowest first, of word
  * p div 64. The edges are its ones, or its zeros, by the polarity; they are numbered from 0, the number being the rank. Where
- * the record is part of a longer stream, its origin is the sample number of bit 0; elsewhere it is 0. Jump, hint and list
- * answer with sample numbers: the origin plus the position. The cells and a dwell do not go by it.
+ * the record is part of a longer stream, its origin is the sample number of bit 0; elsewhere it is 0. Jump, hint, list, next,
+ * previous and the walker answer with sample numbers: the origin plus the position; and the samples that calls take are such
+ * numbers. The cells and a dwell do not go by it.
  *
  * What the caller owes, since a proof cannot ask it of C: each pointer is aligned and stands for as many elements as its
  * length says, of which those that are read are initialized; what a call writes overlaps nothing else that it is lent;
@@ -30,6 +31,7 @@
  *   14  origin plus len over 2^62 - 1, as whole numbers
  *   15  bytes that are no image: a header or a byte length against the rules
  *   16  a place shorter than the image
+ *   17  a sample below the origin, or above origin plus len; the end itself is taken
  */
 #ifndef EDGE_INDEX_H
 #define EDGE_INDEX_H
@@ -135,6 +137,44 @@ uint32_t edge_index_select_list(const uint64_t *words, size_t words_len, const e
                                 const uint64_t *inventory, size_t inventory_len, const uint64_t *spill, size_t spill_len,
                                 const uint64_t *ranks, size_t ranks_len, uint64_t *places, size_t places_len,
                                 uint64_t *words_read);
+
+/* Rank: how many edges lie before a sample. It is counted on from the last entry start at or before the sample. On an index built
+ * or checked the rank of an edge is its number, and the jump to a sample's rank is its next edge, where it has one; on other
+ * cells the rank is what this walk gives. 10 is of entry starts that do not rise or reach len, anywhere: each call reads them all,
+ * so a rank costs a read for each entry.
+ * Refusals, in this order: 1, 14, 2, 9, 6, 7, 17, 10. */
+uint32_t edge_index_rank(const uint64_t *words, size_t words_len, const edge_index_summary *summary,
+                         const uint64_t *inventory, size_t inventory_len, const uint64_t *spill, size_t spill_len,
+                         uint64_t sample, uint64_t *rank);
+
+/* Next: the first edge at or after a sample, by the record alone: no cell is read. found: 1, or 0 where no edge is there; edge is
+ * then as it was.
+ * Refusals, in this order: 1, 14, 2, 9, 17. */
+uint32_t edge_index_next(const uint64_t *words, size_t words_len, const edge_index_summary *summary, uint64_t sample,
+                         uint64_t *edge, uint64_t *found);
+
+/* Previous: the last edge before a sample. As next. */
+uint32_t edge_index_previous(const uint64_t *words, size_t words_len, const edge_index_summary *summary, uint64_t sample,
+                             uint64_t *edge, uint64_t *found);
+
+/* A walker goes over a record from edge to edge. It is four numbers, and the words are handed in at each turn: the same that it was
+ * opened over. */
+typedef struct {
+    uint64_t len;
+    uint64_t polarity;
+    uint64_t origin;
+    uint64_t place; /* a sample: edges before it are behind the walker */
+} edge_index_walker;
+
+/* Open: a walker whose place is a sample. Refused as next is. */
+uint32_t edge_index_open(const uint64_t *words, size_t words_len, const edge_index_summary *summary, uint64_t sample,
+                         edge_index_walker *walker);
+
+/* Turn: the first edge at or after the walker's place, which is then one past that edge. found: 1, or 0 where none is left; edge and
+ * walker are then as they were.
+ * Refusals, in this order, of the walker handed in: 1, 14, 2, 17 (its place). */
+uint32_t edge_index_turn(const uint64_t *words, size_t words_len, edge_index_walker *walker,
+                         uint64_t *edge, uint64_t *found);
 
 /* Write image: an index as bytes, to be kept beside its capture, at the start of the lent place; bytes past the image stay as they
  * are, and so do all on a refusal. written: the image's byte length, 88 + 8 * (inventory_len + spill_len of the summary). The image

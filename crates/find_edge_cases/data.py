@@ -28,6 +28,21 @@ a.bin --origin 100 0 3
 a.bin --origin 4611686018427387887 3
 a.bin --origin 4611686018427387888 3
 a.bin --origin 18446744073709551615
+a.bin --at 5
+a.bin --at 0
+a.bin --at 1
+a.bin --at 10
+a.bin --at 16
+a.bin --at 17
+a.bin --samples 10 --zeros --at 9 5
+a.bin --origin 100 --at 105 1 2
+a.bin --origin 100 --at 100
+a.bin --origin 100 --at 99
+a.bin --samples 10 --origin 100 --at 110
+a.bin --samples 0 --at 0
+c.bin --power 1 --at 65539
+a.bin --at
+a.bin --at x
 a.bin --span 8
 a.bin --power 1
 a.bin --power 1 3

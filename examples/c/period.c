@@ -2,7 +2,8 @@
  *
  * The record holds one bit for each sample, a one where the level changes; its first sample is number 250,000 of a
  * longer stream. Every 500 samples the wave rises or falls, so a period is two edges on. The index is saved as an image,
- * opened again and checked. The program lends the library its buffers and frees them itself. */
+ * opened again and checked. From a touched sample the step knob turns to the next edges. The program lends the library its
+ * buffers and frees them itself. */
 #include "edge_index.h"
 
 #include <inttypes.h>
@@ -47,7 +48,9 @@ int main(void) {
     edge_index_summary summary;
     uint64_t written = 0, yes = 0, first = 0, third = 0, period = 0, words_read = 0;
     const uint64_t ranks[] = {1000, 1001, 1002};
-    uint64_t places[3] = {0};
+    uint64_t places[3] = {0}, rank = 0, edge[2] = {0}, found = 0;
+    const uint64_t touched = ORIGIN + 123456;
+    edge_index_walker walker;
     const char *call = "build";
     number = edge_index_build(words, WORDS, SAMPLES, ORIGIN, EDGE_INDEX_ONES, EDGE_INDEX_DEFAULT, 0, 0.0, 0, inventory,
                               inventory_len, spill, spill_len, &summary);
@@ -83,12 +86,30 @@ int main(void) {
                                         places, 3, &words_read);
     }
     if (number == 0) {
+        call = "rank";
+        number = edge_index_rank(words, WORDS, &summary, inventory, inventory_len, spill, spill_len, touched, &rank);
+    }
+    if (number == 0) {
+        call = "open";
+        number = edge_index_open(words, WORDS, &summary, touched, &walker);
+    }
+    if (number == 0) {
+        call = "turn";
+        number = edge_index_turn(words, WORDS, &walker, &edge[0], &found);
+    }
+    if (number == 0) {
+        number = edge_index_turn(words, WORDS, &walker, &edge[1], &found);
+    }
+    if (number == 0) {
         printf("image: %" PRIu64 " bytes\n", written);
         printf("edges: %" PRIu64 ", checked: %s\n", summary.num, yes ? "yes" : "no");
         printf("edge 1000 at %" PRIu64 ", edge 1002 at %" PRIu64 "\n", first, third);
         printf("period: %" PRIu64 " samples\n", period);
         printf("edges 1000 to 1002 at %" PRIu64 ", %" PRIu64 ", %" PRIu64 ": %" PRIu64 " words read\n", places[0],
                places[1], places[2], words_read);
+
+        printf("sample %" PRIu64 ": %" PRIu64 " edges before it, then %" PRIu64 " and %" PRIu64 "\n", touched, rank, edge[0],
+               edge[1]);
 
         /* There is no edge of this rank: the call says so by number, and `first` keeps its value. */
         uint32_t no = edge_index_select(words, WORDS, &summary, inventory, inventory_len, spill, spill_len,

@@ -172,7 +172,7 @@ pub fn bases(random: &Random) -> Vec<Input> {
 
 /// An origin, on which no cell depends; now and then another, mostly past the limit, is handed in, in the summary, or
 /// both. Before other damage, which may then move a length past the limit too.
-fn renumber(random: &Random, input: &mut Input) {
+pub fn renumber(random: &Random, input: &mut Input) {
     let first = origin(random, input.len);
     let second = if random.one_in(4) { origin(random, input.len) } else { origin_past(random, input.len) };
     (input.origin, input.summary.origin) = match random.below(20) {
@@ -230,7 +230,7 @@ fn near(random: &Random, input: &Input) -> u64 {
     centre.wrapping_add(random.below(5)).wrapping_sub(2)
 }
 
-fn damage(random: &Random, input: &mut Input, other: &Input) {
+pub fn damage(random: &Random, input: &mut Input, other: &Input) {
     let step = (1u64 << input.summary.m.min(10)) + 1;
     let entry = (random.below(input.inventory.len() as u64 / step + 1) * step) as usize;
     let value = near(random, input);
@@ -427,7 +427,7 @@ fn build_calls(tally: &mut Tally, random: &Random, input: &Input) {
 }
 
 /// A record of one word under a summary, for lists.
-fn one_word(word: u64, summary: Summary, cells: &[u64]) -> Input {
+pub fn one_word(word: u64, summary: Summary, cells: &[u64]) -> Input {
     Input {
         words: vec![word],
         len: summary.len,

@@ -3,13 +3,13 @@
 //! A refusal is `Err` of its number. "On anything but 0 nothing behind a pointer changes": outputs hold a sentinel
 //! before the call, and a refusal that altered one comes back as its number plus `TOUCHED`, which no model says.
 
-use crate::model::{Choice, Summary};
+use crate::model::{Choice, Summary, Walker};
 
 pub const TOUCHED: u32 = 1000;
 const SENTINEL: u64 = 0x5EA1_ED5E_A1ED_5EA1;
 
 mod c {
-    use crate::model::Summary;
+    use crate::model::{Summary, Walker};
 
     unsafe extern "C" {
         pub fn edge_index_count(words: *const u64, words_len: usize, len: u64, polarity: u32, num: *mut u64) -> u32;
@@ -56,6 +56,25 @@ mod c {
             inventory: *const u64, inventory_len: usize, spill: *const u64, spill_len: usize,
             ranks: *const u64, ranks_len: usize, places: *mut u64, places_len: usize, words_read: *mut u64,
         ) -> u32;
+        pub fn edge_index_rank(
+            words: *const u64, words_len: usize, summary: *const Summary,
+            inventory: *const u64, inventory_len: usize, spill: *const u64, spill_len: usize,
+            sample: u64, rank: *mut u64,
+        ) -> u32;
+        pub fn edge_index_next(
+            words: *const u64, words_len: usize, summary: *const Summary, sample: u64,
+            edge: *mut u64, found: *mut u64,
+        ) -> u32;
+        pub fn edge_index_previous(
+            words: *const u64, words_len: usize, summary: *const Summary, sample: u64,
+            edge: *mut u64, found: *mut u64,
+        ) -> u32;
+        pub fn edge_index_open(
+            words: *const u64, words_len: usize, summary: *const Summary, sample: u64, walker: *mut Walker,
+        ) -> u32;
+        pub fn edge_index_turn(
+            words: *const u64, words_len: usize, walker: *mut Walker, edge: *mut u64, found: *mut u64,
+        ) -> u32;
         pub fn edge_index_write_image(
             summary: *const Summary,
             inventory: *const u64, inventory_len: usize, spill: *const u64, spill_len: usize,
@@ -76,6 +95,17 @@ fn answer<const K: usize>(code: u32, out: [u64; K]) -> Result<[u64; K], u32> {
         0 => Ok(out),
         _ if out == [SENTINEL; K] => Err(code),
         _ => Err(TOUCHED + code),
+    }
+}
+
+/// The edge on 0, or none, which leaves the place of an edge as it was; else the refusal.
+#[inline]
+fn edge_answer(code: u32, [edge, found]: [u64; 2]) -> Result<Option<u64>, u32> {
+    match (code, found) {
+        (0, 1) => Ok(Some(edge)),
+        (0, 0) if edge == SENTINEL => Ok(None),
+        (0, _) => Err(TOUCHED),
+        _ => answer(code, [edge, found]).map(|_| None),
     }
 }
 
@@ -212,6 +242,19 @@ impl Index<'_> {
         answer(code, [samples]).map(|[samples]| samples)
     }
 
+    /// The edges before a sample.
+    pub fn rank(&self, sample: u64) -> Result<u64, u32> {
+        let mut rank = SENTINEL;
+        let code = unsafe {
+            c::edge_index_rank(
+                self.words.as_ptr(), self.words.len(), self.summary,
+                self.inventory.as_ptr(), self.inventory.len(), self.spill.as_ptr(), self.spill.len(),
+                sample, &mut rank,
+            )
+        };
+        answer(code, [rank]).map(|[rank]| rank)
+    }
+
     /// List: the words read; the positions are in the places.
     #[inline]
     pub fn list(&self, ranks: &[u64], places: &mut [u64]) -> Result<u64, u32> {
@@ -224,6 +267,52 @@ impl Index<'_> {
             )
         };
         answer(code, [words_read]).map(|[words_read]| words_read)
+    }
+}
+
+/// The first edge at or after a sample.
+pub fn next(words: &[u64], summary: &Summary, sample: u64) -> Result<Option<u64>, u32> {
+    let mut out = [SENTINEL; 2];
+    let [edge, found] = &mut out;
+    let code = unsafe { c::edge_index_next(words.as_ptr(), words.len(), summary, sample, edge, found) };
+    edge_answer(code, out)
+}
+
+/// The last edge before a sample.
+pub fn previous(words: &[u64], summary: &Summary, sample: u64) -> Result<Option<u64>, u32> {
+    let mut out = [SENTINEL; 2];
+    let [edge, found] = &mut out;
+    let code = unsafe { c::edge_index_previous(words.as_ptr(), words.len(), summary, sample, edge, found) };
+    edge_answer(code, out)
+}
+
+pub fn open(words: &[u64], summary: &Summary, sample: u64) -> Result<Walker, u32> {
+    let blank = Walker { len: SENTINEL, polarity: SENTINEL, origin: SENTINEL, place: SENTINEL };
+    let mut walker = blank;
+    let code = unsafe { c::edge_index_open(words.as_ptr(), words.len(), summary, sample, &mut walker) };
+    match code {
+        0 => Ok(walker),
+        _ if walker == blank => Err(code),
+        _ => Err(TOUCHED + code),
+    }
+}
+
+/// A turn of a walker in place.
+#[inline]
+pub fn turn_on(words: &[u64], walker: &mut Walker) -> Result<Option<u64>, u32> {
+    let mut out = [SENTINEL; 2];
+    let [edge, found] = &mut out;
+    let code = unsafe { c::edge_index_turn(words.as_ptr(), words.len(), walker, edge, found) };
+    edge_answer(code, out)
+}
+
+/// A turn, and the walker handed back; a refusal that altered it is `TOUCHED`.
+pub fn turn(words: &[u64], walker: &Walker) -> Result<(Option<u64>, Walker), u32> {
+    let mut after = *walker;
+    match turn_on(words, &mut after) {
+        Ok(edge) => Ok((edge, after)),
+        Err(refusal) if after == *walker => Err(refusal),
+        Err(refusal) => Err(TOUCHED + refusal),
     }
 }
 

@@ -15,3 +15,4 @@ pub mod reference;
 pub mod replay;
 pub mod sources;
 pub mod spans;
+pub mod steps;

@@ -1,8 +1,9 @@
-use oracle::{compare, damage, images, long, replay, sources, spans};
+use oracle::{compare, damage, images, long, replay, sources, spans, steps};
 use std::process::ExitCode;
 use std::time::Instant;
 
-const USAGE: &str = "oracle compare [--sources DIR] [--quick] | damage [CALLS] | images [COUNT] | replay OUT";
+const USAGE: &str =
+    "oracle compare [--sources DIR] [--quick] | damage [CALLS] | images [COUNT] | steps [CALLS] | replay OUT";
 
 fn main() -> ExitCode {
     let args: Vec<String> = std::env::args().skip(1).collect();
@@ -53,6 +54,11 @@ fn run(args: &[&str]) -> Result<u64, String> {
             sources::announce();
             let count = count.first().map_or(Ok(600_000), |n| n.parse().map_err(|_| USAGE.to_string()))?;
             Ok(images::run(count))
+        }
+        ["steps", calls @ ..] if calls.len() <= 1 => {
+            sources::announce();
+            let calls = calls.first().map_or(Ok(3_000_000), |n| n.parse().map_err(|_| USAGE.to_string()))?;
+            Ok(steps::run(calls))
         }
         ["replay", out] => {
             sources::announce();

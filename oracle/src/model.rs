@@ -1,6 +1,6 @@
 //! Document 01 as a program: plain whole numbers (u128, i128), no care for speed, each step under the sentence it
 //! follows. Written from the document alone, not from the Rust and not from the library that it judges. The list is
-//! document 02's W-201, the origin its W-202, the image its W-203.
+//! document 02's W-201, the origin its W-202, the image its W-203, rank, next, previous and the walker its W-206.
 
 /// A call's answer, or the number of its refusal in document 01's table.
 pub type Answer<T> = Result<T, u32>;
@@ -640,6 +640,104 @@ impl Index<'_> {
             found.push(self.sample(bit));
         }
         Ok((found, total as u64))
+    }
+}
+
+// ------------------------------------------------------------------- rank, next, previous and the walker
+
+/// Refusal 17, "a sample below the origin or above origin plus `len`", else the sample's position.
+fn position_of(len: u64, origin: u64, sample: u64) -> Answer<u128> {
+    let (len, origin, sample) = (len as u128, origin as u128, sample as u128);
+    if sample < origin || sample > origin + len { Err(17) } else { Ok(sample - origin) }
+}
+
+/// The selected positions from one on, below another, as far as they are asked for.
+fn between(words: &[u64], len: u128, polarity: u32, from: u128, to: u128) -> impl DoubleEndedIterator<Item = u128> {
+    let last = to.div_ceil(64).min(len.div_ceil(64));
+    ((from / 64) as usize..last as usize)
+        .flat_map(move |w| {
+            let bits = selected(words, len, polarity, w);
+            (0..64).filter(move |bit| bits >> bit & 1 == 1).map(move |bit| 64 * w as u128 + bit)
+        })
+        .filter(move |&p| from <= p && p < to)
+}
+
+impl Index<'_> {
+    /// "Rank of a sample is the count of selected bits before it, found from e × 2^L at the last entry start at or before it
+    /// (or 0 at bit 0) and counted on; on foreign cells that walk is the definition." 17 is "in the place of 8".
+    pub fn rank(&self, sample: u64) -> Answer<u64> {
+        self.refusal(&[])?;
+        let s = self.summary;
+        let position = position_of(s.len, s.origin, sample)?;
+        // "entry starts, read as in step 3, that fail to rise, or reach `len`, anywhere, are 10"
+        let mut starts = Vec::new();
+        for e in 0..entries(s.n as u128, s.l as u128) {
+            let first = self.inventory_cell(e * (pow2(s.m as u128) + 1))?;
+            starts.push(if first >> 62 < 2 { first } else { first % pow2(62) });
+        }
+        if starts.windows(2).any(|two| two[1] <= two[0]) || starts.iter().any(|&start| start >= s.len as u128) {
+            return Err(10);
+        }
+        let (from, known) = match starts.iter().rposition(|&start| start <= position) {
+            Some(e) => (starts[e], e as u128 * pow2(s.l as u128)),
+            None => (0, 0),
+        };
+        let counted = between(self.words, s.len as u128, s.polarity as u32, from, position).count();
+        Ok((known + counted as u128) as u64)
+    }
+}
+
+/// What next and previous test: "1, 14, 2, 9, 17".
+fn step_refusal(words: &[u64], s: &Summary, sample: u64) -> Answer<u128> {
+    polarity_code(s.polarity)?;
+    record_refusal(words, s.len, s.origin)?;
+    rules_refusal(s)?;
+    position_of(s.len, s.origin, sample)
+}
+
+/// "Next is the first selected bit at or after the sample".
+pub fn next(words: &[u64], s: &Summary, sample: u64) -> Answer<Option<u64>> {
+    let position = step_refusal(words, s, sample)?;
+    let found = between(words, s.len as u128, s.polarity as u32, position, s.len as u128).next();
+    Ok(found.map(|p| (s.origin as u128 + p) as u64))
+}
+
+/// "previous the last before it".
+pub fn previous(words: &[u64], s: &Summary, sample: u64) -> Answer<Option<u64>> {
+    let position = step_refusal(words, s, sample)?;
+    let found = between(words, s.len as u128, s.polarity as u32, 0, position).next_back();
+    Ok(found.map(|p| (s.origin as u128 + p) as u64))
+}
+
+/// A walker without its words, laid out as in C.
+#[repr(C)]
+#[derive(Clone, Copy, Debug, PartialEq, Eq)]
+pub struct Walker {
+    pub len: u64,
+    pub polarity: u64,
+    pub origin: u64,
+    pub place: u64,
+}
+
+/// "The step knob opens a walker once over the record's words"; its place is "at first the starting sample".
+pub fn open(words: &[u64], s: &Summary, sample: u64) -> Answer<Walker> {
+    step_refusal(words, s, sample)?;
+    Ok(Walker { len: s.len, polarity: s.polarity, origin: s.origin, place: sample })
+}
+
+/// "each turn hands it back one past the edge it gives, the first at or after its place"; "with none left it says "none" and
+/// stays"; "each turn tests the walker handed in for 1, 14, 2 and 17 (its place)".
+pub fn turn(words: &[u64], walker: &Walker) -> Answer<(Option<u64>, Walker)> {
+    let &Walker { len, polarity, origin, place } = walker;
+    let code = polarity_code(polarity)?;
+    record_refusal(words, len, origin)?;
+    let position = position_of(len, origin, place)?;
+    match between(words, len as u128, code, position, len as u128).next() {
+        None => Ok((None, *walker)),
+        Some(p) => {
+            let edge = (origin as u128 + p) as u64;
+            Ok((Some(edge), Walker { place: edge + 1, ..*walker }))
+        }
     }
 }
 

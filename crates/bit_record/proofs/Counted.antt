@@ -1,15 +1,17 @@
 -- What passing the tests shows of a record, and what a count says of it.
 use mathlib.Core.Bool.{Bool, true, false}
 use mathlib.Core.List.{List, [], ◌∷◌}
-use mathlib.Core.Path.{◌≡◌, refl}
-use Prim.Native.Nat.{ℕ, ◌+◌, ◌-◌, ◌^◌}
+use mathlib.Core.Path.{◌≡◌, refl, sym}
+use Prim.Native.Nat.{ℕ, ◌+◌, ◌-◌, ◌^◌, ◌≤◌}
 use native.Mathlib.Omega.{arith}
+use lib.Dec.{ltb}
 use lib.ListN.{length}
 use borrow.Author.Tests.{le-ltb, ltb-false}
+use Rattle.std.proofs.lemmas.Bool.{or_parts}
 use Rattle.rank_sel.specs.Numbers.{ceil_div}
 use Rattle.rank_sel.specs.Outcome.{Outcome, answer, refuse_if, test_by, NoneOf}
 use Rattle.rank_sel.proofs.Outcome.{answer_is, passed_all}
-use Rattle.bit_record.specs.Record.{num_selected, len_too_large, too_few_words, of_record, of_record_from, count_of, Admitted, AdmittedFrom}
+use Rattle.bit_record.specs.Record.{num_selected, len_too_large, too_few_words, of_record, of_record_from, of_sample, position_at, count_of, Admitted, AdmittedFrom}
 use Rattle.bit_record.specs.declared.Polarity.{Polarity}
 
 -- neither 1 nor 2 turns the record down
@@ -48,3 +50,11 @@ pub counted : (ws : List ℕ) (len : ℕ) (pol : Polarity) (n : ℕ) → count_o
 unfolding count_of
 counted ws len pol n e =
     let p = passed_all (of_record ws len) (answer (num_selected pol ws len)) n e in (admitted ws len p.0, answer_is p.1)
+
+-- where a sample has a position, the end is not passed
+pub position_within : (origin len x p : ℕ) → answer p ≡ position_at origin len x → p ≤ len
+unfolding position_at
+position_within origin len x p e =
+    let s = passed_all (of_sample origin len x) (answer (x - origin)) p (sym e) in
+    let o = or_parts (ltb x origin) (ltb (origin + len) x) s.0.0 in
+    omega (arith, answer_is s.1, ltb-false (origin + len) x o.1)

@@ -3,3 +3,4 @@ pub mod Seek
 pub mod Same
 pub mod Counted
 pub mod Bits
+pub mod Step

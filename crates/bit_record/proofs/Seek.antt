@@ -132,18 +132,24 @@ sought_narrow m w k p h s = record {
 
 -- ---- a word of the m positions from p on: what it finds, and what it passes
 module _ (m : ℕ) (f : ℕ → Bool) (p w k : ℕ) (le : m ≤ 64) (held : Holds m f p w) where
+  pub word_sought : (x : ℕ) → Sought (bit w) 64 0 k x → Sought f m p k (p + x)
+  word_sought x s = holds_sought m f p w k x held (sought_narrow m w k x held.small s)
+
   pub word_found : (x : One) → inl x ≡ seek_in_word w k → Sought f m p k (p + x.position) × OneAbove w x.remaining x.position
   word_found x e =
       let s = word_seek_found w k x e in
-      (holds_sought m f p w k x.position held (sought_narrow m w k x.position held.small s.0), s.1)
+      (word_sought x.position s.0, s.1)
 
   pub word_passed : (n : ℕ) → inr n ≡ seek_in_word w k → (n ≤ k) × (rank f (p + m) ≡ rank f p + n)
   word_passed n e =
       let s = word_seek_missing w k n (lt_of_lt_of_le held.small (pow_mono {i = m} {j = 64} le)) e in
       (omega arith, holds_ones m f p w held ∙ ap (λ (x : ℕ). rank f p + x) (sym s.0))
 
--- what lies before p in its word
-pub before_from : (f : ℕ → Bool) (p w : ℕ) → Holds 64 f (64 * (p / 64)) w → rank f p ≡ rank f (64 * (p / 64)) + ones (w % 2 ^ (p % 64))
-before_from f p w h =
+-- ---- what lies before p in its word
+pub ones_before : (f : ℕ → Bool) (p w : ℕ) → Holds (p % 64) f (64 * (p / 64)) w → rank f p ≡ rank f (64 * (p / 64)) + ones w
+ones_before f p w h =
     let b : p ≡ 64 * (p / 64) + p % 64 = omega arith in
-    ap (rank f) b ∙ holds_ones (p % 64) f (64 * (p / 64)) (w % 2 ^ (p % 64)) (holds_less 64 f (64 * (p / 64)) w (p % 64) h (omega arith))
+    ap (rank f) b ∙ holds_ones (p % 64) f (64 * (p / 64)) w h
+
+pub before_from : (f : ℕ → Bool) (p w : ℕ) → Holds 64 f (64 * (p / 64)) w → Holds (p % 64) f (64 * (p / 64)) (w % 2 ^ (p % 64))
+before_from f p w h = holds_less 64 f (64 * (p / 64)) w (p % 64) h (omega arith)

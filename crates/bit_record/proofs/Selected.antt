@@ -9,12 +9,14 @@ use native.Mathlib.Omega.{arith}
 use lib.Bits.{bit_and, and_mask}
 use lib.Count.{ones}
 use lib.Dec.{leb}
-use lib.ListN.{length, get_or}
+use lib.ListN.{length, get_or, take, drop}
 use lib.Pow.{pow_pos, pow_mono}
 use borrow.Author.Tests.{lt-ltb, le-ltb, lt-leb, le-leb}
+use Rattle.rank_sel.specs.Numbers.{ceil_div}
 use Rattle.rank_sel.specs.Rank.{rank}
 use Rattle.std.proofs.lemmas.Bool.{cases_lt}
-use Rattle.rank_sel.proofs.Rank.{rank-zero, rank_add, rank_ext, rank_flat, rank_le}
+use Rattle.std.proofs.lemmas.List.{get_or-take, get_or-drop, length-take-le, length-drop}
+use Rattle.rank_sel.proofs.Rank.{rank-zero, rank_add, rank_ext, rank_le, rank_still}
 use Rattle.select_in_word.specs.Bit.{bit}
 use Rattle.select_in_word.specs.Holds.{Holds}
 use Rattle.select_in_word.specs.Tail.{tail_mask}
@@ -97,7 +99,7 @@ holds_word pol ws len i h k = ⊎_elim
 -- from len on, the rank is N
 pub rank_num : (pol : Polarity) (ws : List ℕ) (len p : ℕ) → len ≤ p → rank (selected pol ws len) p ≡ num_selected pol ws len
 unfolding num_selected
-rank_num pol ws len p h = rank_flat (selected pol ws len) len p h (selected_out pol ws len)
+rank_num pol ws len p h = rank_still (selected pol ws len) len p h (λ q g l. selected_out pol ws len q g)
 
 -- bit q of a part of the words
 part_bit : (pol : Polarity) (ws vs : List ℕ) (len i m q : ℕ) → ((q : ℕ) → q < m → get_or vs q 0 ≡ get_or ws (i + q) 0)
@@ -128,7 +130,7 @@ words_more pol ws i m n j e v h = record {
 }
 
 -- what is counted of a part of the words is counted of them there
-pub words_part : (pol : Polarity) (ws vs : List ℕ) (i m n : ℕ) → length vs ≡ m → ((q : ℕ) → q < m → get_or vs q 0 ≡ get_or ws (i + q) 0)
+words_part : (pol : Polarity) (ws vs : List ℕ) (i m n : ℕ) → length vs ≡ m → ((q : ℕ) → q < m → get_or vs q 0 ≡ get_or ws (i + q) 0)
     → CountsWords pol vs 0 (length vs) n → CountsWords pol ws i m n
 words_part pol ws vs i m n k same v = record {
   exact = λ len l.
@@ -145,6 +147,17 @@ words_part pol ws vs i m n k same v = record {
 
 pub words_most : (pol : Polarity) (ws : List ℕ) (i m n : ℕ) → CountsWords pol ws i m n → n ≤ 64 * (i + m)
 words_most pol ws i m n v = omega (arith, v.exact (64 * (i + m)) (omega arith), rank_le (selected pol ws (64 * (i + m))) (64 * (i + m)))
+
+-- the words from number a on, below b, as a slice takes them
+pub count_between : (pol : Polarity) (ws : List ℕ) (len a b n : ℕ) → a ≤ b → 64 * b ≤ len → ceil_div len 64 ≤ length ws
+    → CountsWords pol (take (b - a) (drop a ws)) 0 (length (take (b - a) (drop a ws))) n
+    → rank (selected pol ws len) (64 * a) + n ≡ rank (selected pol ws len) (64 * b)
+count_between pol ws len a b n l h held v =
+    let f = selected pol ws len in
+    let part = take (b - a) (drop a ws) in
+    let w = words_part pol ws part a (b - a) n (length-take-le (b - a) (drop a ws) (omega (arith, length-drop a ws)))
+    (λ q k. get_or-take (b - a) (drop a ws) q 0 k ∙ get_or-drop a ws q 0) v in
+    w.exact len (omega arith) ∙ ap (rank f) (omega arith)
 
 pub num_le : (pol : Polarity) (ws : List ℕ) (len : ℕ) → num_selected pol ws len ≤ len
 unfolding num_selected

@@ -1,6 +1,6 @@
 -- A record and what is selected in it. Document 01, "What it covers".
 use Rattle.std.specs.Prelude as std
-use Rattle.std.specs.Prelude.{Bool, true, not, ◌&&◌, List, [], ◌∷◌, ◌++◌, ◌≡◌, ℕ, suc, ◌+◌, ◌-◌, ◌*◌, ◌/◌, ◌%◌, ◌^◌, ◌≤◌, ◌<◌, ltb, length, get_or, IfSome}
+use Rattle.std.specs.Prelude.{Bool, true, not, ◌&&◌, ◌||◌, List, [], ◌∷◌, ◌++◌, ◌≡◌, ℕ, suc, ◌+◌, ◌-◌, ◌*◌, ◌/◌, ◌%◌, ◌^◌, ◌≤◌, ◌<◌, ltb, length, get_or, IfSome}
 use Rattle.std.proofs.Math.Option.{Option, none, some}
 use Rattle.rank_sel.specs.Numbers.{ceil_div}
 use Rattle.rank_sel.specs.Outcome.{Outcome, answer, Conditions, refuse_by}
@@ -44,6 +44,10 @@ len_too_large len = ltb (2 ^ 62 - 1) len
 abbrev pub origin_too_large : ℕ → ℕ → Bool
 origin_too_large origin len = ltb (2 ^ 62 - 1) (origin + len)
 
+-- the condition of refusal 17: a sample before bit 0, or past the end; the end itself is taken (document 02, W-206)
+abbrev pub sample_outside : ℕ → ℕ → ℕ → Bool
+sample_outside origin len x = ltb x origin || ltb (sample_at origin len) x
+
 abbrev pub too_few_words : List ℕ → ℕ → Bool
 too_few_words ws len = ltb (length ws) (ceil_div len 64)
 
@@ -57,6 +61,13 @@ of_len len origin = (len_too_large len, 1) ∷ (origin_too_large origin len, 14)
 -- where an origin is handed in, or a summary, which has one
 abbrev pub of_record_from : List ℕ → ℕ → ℕ → Conditions
 of_record_from ws len origin = of_len len origin ++ ((too_few_words ws len, 2) ∷ [])
+
+abbrev pub of_sample : ℕ → ℕ → ℕ → Conditions
+of_sample origin len x = (sample_outside origin len x, 17) ∷ []
+
+-- the position of a sample number, or 17
+unfoldable pub position_at : ℕ → ℕ → ℕ → Outcome ℕ
+position_at origin len x = refuse_by (of_sample origin len x) (answer (x - origin))
 
 unfoldable pub count_of : List ℕ → ℕ → Polarity → Outcome ℕ
 count_of ws len pol = refuse_by (of_record ws len) (answer (num_selected pol ws len))

@@ -4,10 +4,11 @@
 ghost use Rattle.std.specs.Prelude.{◌≡◌, ◌+◌, ◌-◌, ◌*◌, ◌/◌, ◌^◌, ◌≤◌, ◌<◌, length};
 ghost use Rattle.rank_sel.specs.Outcome.{outcome, test_by};
 ghost use Rattle.select_in_word.specs.Holds.{Holds};
-ghost use Rattle.bit_record.specs.Record.{CountsWords, bit_at, chosen, complemented, count_of, of_len, of_record_from, origin_too_large, sample_at, selected};
+ghost use Rattle.bit_record.specs.Record.{CountsWords, bit_at, chosen, complemented, count_of, of_len, of_record_from, origin_too_large, position_at, sample_at, selected};
 
 mod record;
 mod seeks;
+mod steps;
 
 use rank_sel::Refusal;
 pub use record::Record;
@@ -62,6 +63,17 @@ pub fn sample_at(origin: u64, position: u64) -> u64
     ensures { result ≡ sample_at origin position }
 {
     origin + position
+}
+
+// And the one where it is taken off a sample number, or refusal 17. What is past the end is told by the difference: the sum may
+// pass 2^64.
+pub fn position_at(origin: u64, len: u64, sample: u64) -> Result<u64, Refusal>
+    ensures { outcome result ≡ position_at origin len sample }
+{
+    if sample < origin || len < sample - origin {
+        return Err(Refusal::SampleOutside);
+    }
+    Ok(sample - origin)
 }
 
 // The word whose ones are the bits that the polarity selects.

@@ -30,8 +30,8 @@ fn found_in(index: u64, word: u64, one: One) -> Found
     }
 }
 
-// The words that `seek_far` counts at a time.
-const BLOCK: usize = 8;
+// The words that are counted at a time where a position is likely far off.
+pub(crate) const BLOCK: usize = 8;
 
 // Where the loop over words is inlined, a mark waits for counts of words alone, and not for the position before it.
 impl Record<'_> {
@@ -54,7 +54,7 @@ impl Record<'_> {
     // In the last word, where that is not whole. By value: behind a reference the record has to be stored for each seek, though
     // nearly none gets here.
     #[inline(never)]
-    fn seek_last(self, k: u64) -> Option<Found>
+    pub(crate) fn seek_last(self, k: u64) -> Option<Found>
         ensures { Finds (selects self.entry) (self.entry.len - 64 * (self.entry.len / 64)) (64 * (self.entry.len / 64)) k result }
     {
         if self.len % 64 == 0 {

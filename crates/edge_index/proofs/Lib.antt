@@ -1,5 +1,6 @@
 pub mod Sound
 pub mod Lists
+pub mod Ranks
 pub mod Right
 pub mod Promises
 pub mod Determined
@@ -7,4 +8,5 @@ pub mod Refusals
 pub mod Padding
 pub mod Images
 pub mod Spans
+pub mod Steps
 pub mod Table

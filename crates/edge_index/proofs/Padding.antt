@@ -5,11 +5,12 @@ use mathlib.Core.Option.{Option}
 use mathlib.Core.Path.{◌≡◌, refl, sym, ap, ◌∙◌, subst}
 use Prim.Native.Nat.{ℕ, ◌-◌, ◌^◌}
 use lib.Dec.{ltb}
+use Rattle.std.specs.Borrow.{Bor}
 use lib.ListN.{length, drop}
 use Rattle.rank_sel.specs.Outcome.{Outcome, answer, refused, refuse_if, Conditions, refuse_by, and_then}
 use Rattle.rank_sel.specs.Seek.{select}
-use Rattle.rank_sel.proofs.Outcome.{by_outcome, by_then, passed_all}
-use Rattle.bit_record.specs.Record.{of_record_from, SameRecord}
+use Rattle.rank_sel.proofs.Outcome.{by_outcome, by_then, passed_all, tests_answer}
+use Rattle.bit_record.specs.Record.{of_record_from, of_sample, SameRecord}
 use Rattle.bit_record.specs.declared.Polarity.{Polarity}
 use Rattle.bit_record.proofs.Same.{selected_same, words_same, count_same}
 use Rattle.spacing.specs.Spacing.{N, plan_of}
@@ -28,6 +29,9 @@ use Rattle.read_inventory.specs.Read.{position_of}
 use Rattle.read_inventory.specs.Tests.{of_index, of_rank, of_ranks}
 use Rattle.select_list.specs.List.{Walk, start, after, walk, of_list, walk_of, list_of}
 use Rattle.select_list.specs.Step.{Reached, step_of}
+use Rattle.rank_inventory.specs.Rank.{rank_at, rank_of}
+use Rattle.step_knob.specs.Step.{next_of, previous_of, of_step, walker_at, open_of, turn_of}
+use Rattle.step_knob.specs.declared.walker.Walker.{Walker}
 use Rattle.edge_index.specs.Padding.{Alike}
 use Rattle.edge_index.specs.Promises.{inventory_holds, spill_holds}
 
@@ -159,6 +163,33 @@ module _ (len : ℕ) (ws vs : List ℕ) (s : SameRecord len ws vs) where
     unfolding list_of walk_of
     list_same ranks lent = tests_same (of_list (N t.plan) ranks lent) (walk_of ws t inv sp ranks) ∙ rw (walk_same ranks start)
 
+    rank_same : (x : ℕ) → rank_of ws t inv sp x ≡ rank_of vs t inv sp x
+    unfolding rank_of rank_at
+    rank_same x =
+        tests_same (of_sample t.origin t.plan.len x) (rank_at ws t inv (x - t.origin)) ∙ rw (selected_same t.plan.len ws vs here t.plan.polarity)
+
+    next_same : (x : ℕ) → next_of ws t x ≡ next_of vs t x
+    unfolding next_of
+    next_same x = rw (words_same t.plan.len ws vs here, selected_same t.plan.len ws vs here t.plan.polarity)
+
+    previous_same : (x : ℕ) → previous_of ws t x ≡ previous_of vs t x
+    unfolding previous_of
+    previous_same x = rw (words_same t.plan.len ws vs here, selected_same t.plan.len ws vs here t.plan.polarity)
+
+  opened_same : (a b : Bor (List ℕ)) (t : Summary) (x : ℕ) → a.now ≡ ws → b.now ≡ vs → t.plan.len ≡ len
+      → and_then (open_of a t x) (λ w. answer w.place) ≡ and_then (open_of b t x) (λ w. answer w.place)
+  unfolding open_of
+  opened_same a b t x f g e =
+      let place = λ (y : Walker). answer y.place in
+      let p = t.plan in
+      tests_answer (of_step a.now t x) (walker_at a p.len p.polarity t.origin x) place
+      ∙ rw (f, g, words_same p.len ws vs (here t [] [] e)) refl
+      ∙ sym (tests_answer (of_step b.now t x) (walker_at b p.len p.polarity t.origin x) place)
+
+  turn_same : (pol : Polarity) (origin x : ℕ) → turn_of ws len pol origin x ≡ turn_of vs len pol origin x
+  unfolding turn_of
+  turn_same pol origin x = rw (words_same len ws vs s, selected_same len ws vs s pol)
+
   pub padding_alike : Alike len ws vs
   unfolding size_of fitted
   padding_alike = record {
@@ -175,4 +206,9 @@ module _ (len : ℕ) (ws vs : List ℕ) (s : SameRecord len ws vs) where
     store = λ t inv sp r e. store_same t inv sp e r;
     dwell = λ t inv sp a b e. dwell_same t inv sp e a b;
     list = λ t inv sp ranks lent e. list_same t inv sp e ranks lent;
+    rank = λ t inv sp x e. rank_same t inv sp e x;
+    next = λ t x e. next_same t [] [] e x;
+    previous = λ t x e. previous_same t [] [] e x;
+    opened = opened_same;
+    turn = turn_same;
   }

@@ -13,7 +13,7 @@ use Rattle.rank_sel.specs.Seek.{seek}
 use Rattle.rank_sel.proofs.Outcome.{tests_more, tests_past}
 use Rattle.select_in_word.proofs.Bit.{ones_rank}
 use Rattle.select_in_word.proofs.Select.{word_refused, word_missing}
-use Rattle.bit_record.specs.Record.{selected, num_selected, count_of}
+use Rattle.bit_record.specs.Record.{sample_outside, selected, num_selected, count_of}
 use Rattle.bit_record.specs.declared.Polarity.{Polarity}
 use Rattle.bit_record.proofs.Counted.{admitted_none, admitted_from}
 use Rattle.spacing.specs.Spacing.{N, rule, chosen_plan, plan_of}
@@ -31,8 +31,10 @@ use Rattle.read_inventory.specs.Tests.{rank_too_large, ranks_fall}
 use Rattle.read_inventory.proofs.PartSize.{store_some, store_in, store_length}
 use Rattle.select_list.specs.List.{Walk, start as begin, after, walk, falls_from, any_too_large, of_list, listed, walk_of, list_of}
 use Rattle.select_list.specs.Step.{Reached, Start, start_of, read_from, step_at_mark, step_from, step_of}
+use Rattle.rank_inventory.specs.Rank.{starts_unlawful, rank_at, rank_of}
+use Rattle.step_knob.specs.Step.{next_of, previous_of, open_of, of_turn, turn_of}
 use Rattle.index_image.specs.Image.{image_of, of_writing, write_of, of_reading, read_of}
-use Rattle.edge_index.specs.Refusals.{first_of, InOrder, record_order, record_from_order, choice_order, index_order, plan_in, summary_in, to_six, to_seven, Never, Only10, MakersRefuse, ReadersRefuse, ImagesRefuse, InWordRefuses}
+use Rattle.edge_index.specs.Refusals.{first_of, InOrder, record_order, record_from_order, choice_order, index_order, plan_in, summary_in, to_six, to_seven, Never, Only10, MakersRefuse, ReadersRefuse, StepsRefuse, step_order, ImagesRefuse, InWordRefuses}
 
 -- ---- chains of tests
 pub in_rest : {A : Type 0} (o : Outcome A) → InOrder o [] o
@@ -63,6 +65,19 @@ in_then o (c ∷ cs) ds a go rest h k =
         some_is : {x y : ℕ} → ◌≡◌ {A = Option ℕ} (some x) (some y) → x ≡ y
         some_is e = cc
     step false f ih = let i = ih f in record { first = λ n g. i.first n (rw f at g); else = λ g. i.else (rw f at g) }
+
+-- the first is none where none holds, and the other way round
+pub none_first : (cs : Conditions) → first_of cs ≡ none → NoneOf cs
+none_first [] e = tt
+none_first (c ∷ cs) e = go (none_first cs) c.0 refl e
+  where
+    go : (first_of cs ≡ none → NoneOf cs) → (b : Bool) → c.0 ≡ b → cond b (some c.1) (first_of cs) ≡ none → NoneOf (c ∷ cs)
+    go ih true f d = cc
+    go ih false f d = (f, ih d)
+
+pub first_none : (cs : Conditions) → NoneOf cs → first_of cs ≡ none
+first_none [] h = refl
+first_none (c ∷ cs) h = rw (h.0) (first_none cs h.1)
 
 -- a number that none of the conditions has is never said
 Unsaid : ℕ → Conditions → Type 0
@@ -234,6 +249,10 @@ module _ (ws : List ℕ) (t : Summary) (inv sp : List ℕ) where
   unfolding walk_of
   ten_list ranks = ten_then (walk ws t inv sp begin ranks) _ (ten_walk ranks begin) (λ w. ten_answer (listed t.origin w))
 
+ten_at : (ws : List ℕ) (t : Summary) (inv : List ℕ) (x : ℕ) → Only10 (rank_at ws t inv x)
+unfolding rank_at
+ten_at ws t inv x = ten_refuse (starts_unlawful t inv) _ (ten_answer _)
+
 -- ---- the readers
 none_listed : (ws : List ℕ) (t : Summary) (inv sp : List ℕ) (lent : ℕ) → first_of (index_order ws t inv sp) ≡ none
     → list_of ws t inv sp [] lent ≡ answer (record { samples = []; total = 0 })
@@ -249,7 +268,7 @@ store_back ws t inv sp r (answer h) e d = absurd (omega (arith, store_some ws t 
 store_back ws t inv sp r (refused n) e d = (n, refl)
 
 pub readers_refuse : (ws : List ℕ) (t : Summary) (inv sp : List ℕ) → ReadersRefuse ws t inv sp
-unfolding select_of sample_of hint_of hint_sample dwell_of subinventory_of store_of list_of
+unfolding select_of sample_of hint_of hint_sample dwell_of subinventory_of store_of rank_of list_of
 readers_refuse ws t inv sp = record {
   select = λ r. in_tests (index_order ws t inv sp ++ ((rank_too_large (N t.plan) r, 8) ∷ [])) _;
   select_10 = λ r. ten_then (position_of ws t inv sp r) _ (ten_position ws t inv sp r) (λ p. ten_answer _);
@@ -262,10 +281,23 @@ readers_refuse ws t inv sp = record {
   store = λ r. (store_back ws t inv sp r (hint_of ws t inv sp r) refl, λ h. rw h.1);
   store_some = store_some ws t inv sp;
   store_in = store_in ws t inv sp;
+  rank = λ x. in_tests (index_order ws t inv sp ++ ((sample_outside t.origin t.plan.len x, 17) ∷ [])) _;
+  rank_10 = ten_at ws t inv;
   list = λ ranks lent. in_tests (index_order ws t inv sp ++ of_list (N t.plan) ranks lent) _;
   list_10 = ten_list ws t inv sp;
   list_untouched = λ ranks places n e. rw e;
   list_empty = none_listed ws t inv sp;
+}
+
+-- ---- the step knob
+pub steps_refuse : StepsRefuse
+unfolding next_of previous_of open_of turn_of
+steps_refuse = record {
+  next = λ ws t x. in_tests (step_order ws t x) _;
+  previous = λ ws t x. in_tests (step_order ws t x) _;
+  opened = λ words t x. in_tests (step_order words.now t x) _;
+  turn = λ ws len pol origin x. in_tests (of_turn ws len origin x) _;
+  turn_untouched = λ w n e. rw e;
 }
 
 -- ---- images

@@ -10,7 +10,7 @@ use lib.ListN.{length, get_or, drop, length-append, length-drop, length-map, get
 use lib.Seq.{drop_at}
 use borrow.Author.Tests.{lt-ltb, le-ltb, lt-leb, le-leb}
 use Rattle.rank_sel.specs.Numbers.{sum}
-use Rattle.rank_sel.specs.Outcome.{Outcome, answer, or_refuse, Conditions, refuse_by}
+use Rattle.rank_sel.specs.Outcome.{Outcome, answer, refused, or_refuse, Conditions, refuse_by}
 use Rattle.rank_sel.specs.Rank.{rank}
 use Rattle.rank_sel.specs.Seek.{select}
 use Rattle.std.proofs.lemmas.Bool.{cases_lt}
@@ -42,6 +42,7 @@ use Rattle.select_list.proofs.Ranks.{rising_none, below_none}
 use Rattle.edge_index.specs.Right.{Within, Answerable, ListRight, Right}
 use Rattle.edge_index.specs.Sound.{q_of, marks_of, spilled_of, mark_rank, Sound}
 use Rattle.edge_index.proofs.Lists.{mapped, Leading, walk-lists}
+use Rattle.edge_index.proofs.Ranks.{Ranking, ranks_right}
 
 -- step 7 from the mark of rank m, past j: an exact mark is the bit itself
 finish-mark : (b : Bool) (f : ℕ → Bool) (len m j : ℕ) → m + j < rank f len → (b ≡ true → j ≡ 0)
@@ -227,6 +228,24 @@ module _ (ws : List ℕ) (len origin : ℕ) (pol : Polarity) (choice : Choice) (
         },
       )
 
+  -- ---- ranks
+  select_past : (r : ℕ) → N p ≤ r → select_of ws t inv sp r ≡ refused 8
+  unfolding select_of
+  select_past r h = tests_pass (of_rank (N p) r) (sample_of ws t inv sp r) ∙ rw (le-leb (N p) r h)
+
+  ranking : Ranking ws len origin pol t inv sp
+  ranking = record {
+    held = index_held;
+    polarity = c.polarity;
+    length = c.length;
+    bit_zero = s.bit_zero;
+    num = plan_num ws len pol p c;
+    starts = s.starts;
+    bits = s.bits;
+    jumps = select_right;
+    past = select_past;
+  }
+
   pub right : Right ws len origin pol t inv sp
   unfolding select_of hint_of dwell_of dwell_at
   right = record {
@@ -250,7 +269,8 @@ module _ (ws : List ℕ) (len origin : ℕ) (pol : Polarity) (choice : Choice) (
     );
     store = store_right;
     list = list_right;
-    select_past = λ r h. tests_pass (of_rank (N p) r) (sample_of ws t inv sp r) ∙ rw (le-leb (N p) r h);
+    ranks = ranks_right ranking;
+    select_past = select_past;
     hint_past = λ r h. tests_pass (of_rank (N p) r) (hint_sample t inv sp r) ∙ rw (le-leb (N p) r h);
     dwell_past_a = λ a b h. tests_pass (of_ranks (N p) a b) (dwell_at ws t inv sp a b) ∙ rw (le-leb (N p) a h);
     dwell_past_b = λ a b l h. tests_pass (of_ranks (N p) a b) (dwell_at ws t inv sp a b) ∙ rw (lt-leb (N p) a l, le-leb (N p) b h);

@@ -5,6 +5,7 @@ use Rattle.rank_sel.specs.Lists.{same_list}
 use Rattle.rank_sel.specs.Numbers.{clog2, first_from, ilog2, sum}
 use Rattle.rank_sel.specs.Rank.{rank}
 use Rattle.rank_sel.specs.Seek.{seek, select}
+use Rattle.rank_sel.specs.Step.{last_before}
 use Rattle.select_in_word.specs.Bit.{bit}
 use Rattle.select_in_word.specs.Select.{select_in_word}
 use Rattle.bit_record.specs.Record.{bit_at, selected, num_selected, count_of}
@@ -23,7 +24,10 @@ use Rattle.select_list.specs.List.{any_too_large, falls_from, list_of, sum_over,
 use Rattle.select_list.specs.Step.{read_from, single_words, step_from, step_of, words_read}
 use Rattle.index_image.specs.Bytes.{word_bytes, bytes_of, word_from, words_from}
 use Rattle.index_image.specs.Image.{header_of, image_of, write_of, summary_in, inventory_in, spill_in, image_unlawful, read_of}
-use Rattle.edge_index.specs.Table.{Agree, table, lists, origins, images}
+use Rattle.rank_inventory.specs.Rank.{starts_unlawful, rank_at, rank_of}
+use Rattle.rank_inventory.specs.Starts.{starts_rise}
+use Rattle.step_knob.specs.Step.{next_of, previous_of, turn_of}
+use Rattle.edge_index.specs.Table.{Agree, table, lists, origins, images, steps}
 
 pub table_agrees : Agree table
 unfolding rank seek select bit select_in_word bit_at selected num_selected count_of
@@ -199,3 +203,8 @@ pub images_agree : Agree images
 unfolding lane_of pack tabulate entries_of inventory_len_of unlawful same_list polarity_at summary_at numbers_of
     word_bytes bytes_of word_from words_from header_of image_of write_of summary_in inventory_in spill_in image_unlawful read_of
 images_agree = (refl, (refl, (refl, (refl, (refl, (refl, (refl, (refl, (refl, (refl, (refl, (refl, (refl, (refl, (refl, (refl, (refl, (refl, (refl, (refl, (refl, (refl, (refl, (refl, (refl, (refl, (refl, (refl, (refl, tt)))))))))))))))))))))))))))))
+
+pub steps_agree : Agree steps
+unfolding rank seek bit bit_at selected entries_of inventory_len_of kind_at start_at cell_at unlawful
+    last_before starts_rise starts_unlawful rank_at rank_of next_of previous_of turn_of
+steps_agree = (refl, (refl, (refl, (refl, (refl, (refl, (refl, (refl, (refl, (refl, (refl, (refl, (refl, (refl, (refl, (refl, (refl, tt)))))))))))))))))

@@ -1,11 +1,12 @@
 -- Demand 1: each refusal is given exactly where its condition holds and none before it in the order does. Document 01,
--- "When a call is turned down", and document 02, W-201 to W-203. The conditions are those that the definitions name.
+-- "When a call is turned down", and document 02, W-201 to W-203 and W-206. The conditions are those that the definitions name.
 use Rattle.std.specs.Prelude.{cond, ◌&&◌, List, [], ◌∷◌, ◌++◌, ◌↔◌, ◌≡◌, ℕ, ◌-◌, ◌^◌, ◌≤◌, ◌<◌, ltb, length}
 use Rattle.std.proofs.Math.Option.{Option, none, some}
+use Rattle.std.specs.Borrow.{Bor}
 use Rattle.std.specs.Int.Count.{ones}
 use Rattle.rank_sel.specs.Outcome.{Outcome, answer, refused, Conditions}
 use Rattle.select_in_word.specs.Select.{select_in_word}
-use Rattle.bit_record.specs.Record.{len_too_large, origin_too_large, too_few_words, num_selected, count_of}
+use Rattle.bit_record.specs.Record.{len_too_large, origin_too_large, too_few_words, sample_outside, num_selected, count_of}
 use Rattle.bit_record.specs.declared.Polarity.{Polarity}
 use Rattle.spacing.specs.Spacing.{N, rule, plan_for, ones_per_inventory_too_large, words_per_subinventory_too_large, overhead_not_positive, plan_of}
 use Rattle.spacing.specs.declared.Choice.{Choice}
@@ -20,6 +21,9 @@ use Rattle.read_inventory.specs.Jump.{sample_of, select_of, hint_sample, hint_of
 use Rattle.read_inventory.specs.Read.{Hint}
 use Rattle.read_inventory.specs.Tests.{rank_too_large, ranks_fall}
 use Rattle.select_list.specs.List.{falls, too_few_places, any_too_large, walk_of, list_of, places_after}
+use Rattle.rank_inventory.specs.Rank.{rank_at, rank_of}
+use Rattle.step_knob.specs.Step.{edge_from, edge_before, next_of, previous_of, walker_at, open_of, turn_of, walker_after}
+use Rattle.step_knob.specs.declared.walker.Walker.{Walker}
 use Rattle.index_image.specs.Image.{image_of, place_too_short, write_of, bytes_after, inventory_in, spill_in, image_unlawful, read_of, cells_after, summary_in as summary_of_bytes}
 
 -- the number of the first that holds
@@ -108,6 +112,10 @@ module _ (ws : List ℕ) (t : Summary) (inv sp : List ℕ) where
     pub store : (r : ℕ) → (cells_of inv sp (subinventory_of ws t inv sp r) ≡ []) ↔ ((n : ℕ) × (hint_of ws t inv sp r ≡ refused n))
     pub store_some : (r : ℕ) (h : Hint) → hint_of ws t inv sp r ≡ answer h → 0 < cell_count (subinventory_of ws t inv sp r)
     pub store_in : (r : ℕ) → PartIn inv sp (subinventory_of ws t inv sp r)
+    -- 17 stands where 8 does elsewhere
+    pub rank : (x : ℕ) → InOrder (rank_of ws t inv sp x) (index_order ws t inv sp ++ ((sample_outside t.origin t.plan.len x, 17) ∷ []))
+        (rank_at ws t inv (x - t.origin))
+    pub rank_10 : (x : ℕ) → Only10 (rank_at ws t inv x)
     -- 12, 13 and 8 for the whole list, before any rank is read
     pub list : (ranks : List ℕ) (lent : ℕ) → InOrder (list_of ws t inv sp ranks lent)
         (index_order ws t inv sp ++ ((falls ranks, 12) ∷ (too_few_places lent ranks, 13) ∷ (any_too_large (N t.plan) ranks, 8) ∷ []))
@@ -118,6 +126,26 @@ module _ (ws : List ℕ) (t : Summary) (inv sp : List ℕ) where
         → places_after (list_of ws t inv sp ranks (length places)) places ≡ places
     pub list_empty : (lent : ℕ) → first_of (index_order ws t inv sp) ≡ none
         → list_of ws t inv sp [] lent ≡ answer (record { samples = []; total = 0 })
+
+-- ---- by words and summary alone: 1, 14, 2, 9, 17 of a sample, and 1, 14, 2, 17 of a walker
+abbrev pub step_order : List ℕ → Summary → ℕ → Conditions
+step_order ws t x =
+    record_from_order ws t.plan.len t.origin ++ ((unlawful t, 9) ∷ (sample_outside t.origin t.plan.len x, 17) ∷ [])
+
+abbrev pub turn_order : List ℕ → ℕ → ℕ → ℕ → Conditions
+turn_order ws len origin x = record_from_order ws len origin ++ ((sample_outside origin len x, 17) ∷ [])
+
+pub record StepsRefuse : Type 0 where
+  pub next : (ws : List ℕ) (t : Summary) (x : ℕ) → InOrder (next_of ws t x) (step_order ws t x)
+      (answer (edge_from ws t.plan.len t.plan.polarity t.origin x))
+  pub previous : (ws : List ℕ) (t : Summary) (x : ℕ) → InOrder (previous_of ws t x) (step_order ws t x)
+      (answer (edge_before ws t.plan.len t.plan.polarity t.origin x))
+  pub opened : (words : Bor (List ℕ)) (t : Summary) (x : ℕ) → InOrder (open_of words t x) (step_order words.now t x)
+      (answer (walker_at words t.plan.len t.plan.polarity t.origin x))
+  pub turn : (ws : List ℕ) (len : ℕ) (pol : Polarity) (origin x : ℕ) → InOrder (turn_of ws len pol origin x)
+      (turn_order ws len origin x) (answer (edge_from ws len pol origin x))
+  -- a walker that is turned down is handed back as it was
+  pub turn_untouched : (w : Walker) (n : ℕ) → turn_of w.words.now w.len w.polarity w.origin w.place ≡ refused n → walker_after w ≡ w
 
 -- ---- of images: 1, 14, 9, 6, 7, 16 in writing, 15, 6, 7 in reading; a refusal leaves bytes and cells as they were
 pub record ImagesRefuse : Type 0 where

@@ -1,8 +1,10 @@
 -- Demand 2: on an index that has demand 3, the readers answer each rank below N, and lists of them, with the sample numbers
--- from the origin on; they refuse by 8, 11, 12 and 13 alone.
-use Rattle.std.specs.Prelude.{true, false, List, ◌≡◌, ℕ, ◌+◌, ◌-◌, ◌/◌, ◌%◌, ◌^◌, ◌≤◌, ◌<◌, length, get_or, drop}
+-- from the origin on; they refuse by 8, 11, 12 and 13 alone. Rank answers each sample with the count of edges before it, and
+-- refuses by 17 alone.
+use Rattle.std.specs.Prelude.{true, false, Some, None, List, ◌↔◌, ◌≡◌, ℕ, ◌+◌, ◌-◌, ◌/◌, ◌%◌, ◌^◌, ◌≤◌, ◌<◌, length, get_or, drop}
 use Rattle.rank_sel.specs.Outcome.{answer, refused}
-use Rattle.bit_record.specs.Record.{bit_of, sample_at}
+use Rattle.rank_sel.specs.Rank.{rank}
+use Rattle.bit_record.specs.Record.{selected, bit_of, sample_at, sample_outside}
 use Rattle.bit_record.specs.declared.Polarity.{Polarity}
 use Rattle.spacing.specs.Spacing.{N, L}
 use Rattle.inventory.specs.declared.summary.Summary.{Summary}
@@ -10,6 +12,8 @@ use Rattle.read_inventory.specs.Read.{Place, start, own, over, place_at, mark_nu
 use Rattle.read_inventory.specs.Jump.{select_of, hint_of, dwell_of, Part, of_inventory, of_spill, empty, subinventory_of}
 use Rattle.select_list.specs.List.{falls, NeverFalls, any_too_large, Listed, list_of, places_after, sum_over}
 use Rattle.select_list.specs.Step.{single_words}
+use Rattle.rank_inventory.specs.Rank.{rank_of}
+use Rattle.step_knob.specs.Step.{next_of}
 use Rattle.edge_index.specs.Sound.{Bit, q_of, mark_rank}
 
 -- a part of the cells has the cell at a place; a U64 entry's start is not one of its numbers, and goes with its own cells
@@ -48,6 +52,19 @@ module _ (ws : List ℕ) (len origin : ℕ) (pol : Polarity) (t : Summary) (inv 
     pub many : length (places_after (answer x) places) ≡ length places
     pub fewer : x.total ≤ sum_over (single_words ws t inv sp) ranks
 
+  -- the rank of a sample, which may be the record's end: document 02, W-206
+  pub record RankRight : Type 0 where
+    pub exact : (x : ℕ) → sample_outside origin len x ≡ false → rank_of ws t inv sp x ≡ answer (rank (selected pol ws len) (x - origin))
+    pub outside : (x : ℕ) → sample_outside origin len x ≡ true → rank_of ws t inv sp x ≡ refused 17
+    -- nothing else is refused, and never 10
+    pub only_17 : (x n : ℕ) → rank_of ws t inv sp x ≡ refused n → n ≡ 17
+    pub end : rank_of ws t inv sp (sample_at origin len) ≡ answer (N t.plan)
+    -- the rank of what jump answers for r is r
+    pub jumped : (r x : ℕ) → select_of ws t inv sp r ≡ answer x → rank_of ws t inv sp x ≡ answer r
+    -- and the jump to a sample's rank is its next edge, exactly where it has one; where it has none the rank is N
+    pub next : (x r e : ℕ) → rank_of ws t inv sp x ≡ answer r → (next_of ws t x ≡ answer (Some e)) ↔ (select_of ws t inv sp r ≡ answer e)
+    pub none : (x r : ℕ) → rank_of ws t inv sp x ≡ answer r → (next_of ws t x ≡ answer None) ↔ (r ≡ N t.plan)
+
   pub record Right : Type 0 where
     pub select : (r : ℕ) → r < N t.plan → (p : ℕ) × (select_of ws t inv sp r ≡ answer (sample_at origin p)) × Bit ws len pol r p
     pub hint : (r : ℕ) → r < N t.plan
@@ -58,6 +75,7 @@ module _ (ws : List ℕ) (len origin : ℕ) (pol : Polarity) (t : Summary) (inv 
     pub store : (r : ℕ) → r < N t.plan → Within (place_at t inv (r / 2 ^ L t.plan) (mark_number t inv r)) (subinventory_of ws t inv sp r)
     pub list : (ranks places : List ℕ) → Answerable (N t.plan) ranks (length places)
         → (x : Listed) × (list_of ws t inv sp ranks (length places) ≡ answer x) × ListRight ranks places x
+    pub ranks : RankRight
     -- nothing else is refused, and these by their own numbers: none of 1, 14, 2, 6, 7, 9 and 10 is said
     pub select_past : (r : ℕ) → N t.plan ≤ r → select_of ws t inv sp r ≡ refused 8
     pub hint_past : (r : ℕ) → N t.plan ≤ r → hint_of ws t inv sp r ≡ refused 8

@@ -1,6 +1,7 @@
 -- Records to try: what the definitions give, beside what document 01 and the source say. Its starred lines, and the one that
--- document 02's W-205 adds, are marked *. Then lists, beside its W-201, origins, beside W-202, and images, beside W-203.
-use Rattle.std.specs.Prelude.{true, false, List, [], ◌∷◌, ◌++◌, map, ◌≡◌, ℕ, ◌+◌, ◌-◌, ◌^◌, pos, negsuc, length, take, drop, set, replicate}
+-- document 02's W-205 adds, are marked *. Then lists, beside its W-201, origins, beside W-202, images, beside
+-- W-203, and steps, beside W-206.
+use Rattle.std.specs.Prelude.{true, false, Option, Some, None, List, zero, suc, [], ◌∷◌, ◌++◌, map, ◌≡◌, ℕ, ◌+◌, ◌-◌, ◌^◌, pos, negsuc, length, take, drop, set, replicate}
 use Rattle.std.specs.Float.{nan, inf, fin}
 use Rattle.rank_sel.specs.Outcome.{Outcome, answer, refused}
 use Rattle.select_in_word.specs.Select.{select_in_word}
@@ -20,6 +21,8 @@ use Rattle.build_inventory.specs.Build.{check_of}
 use Rattle.read_inventory.specs.Jump.{select_of, hint_of, dwell_of, of_inventory, empty, subinventory_of}
 use Rattle.select_list.specs.List.{Listed, list_of, sum_over}
 use Rattle.select_list.specs.Step.{single_words}
+use Rattle.rank_inventory.specs.Rank.{rank_of}
+use Rattle.step_knob.specs.Step.{next_of, previous_of, turn_of, place_after}
 use Rattle.index_image.specs.Bytes.{bytes_of}
 use Rattle.index_image.specs.Image.{write_of, bytes_after, read_of}
 use Rattle.edge_index.specs.Images.{inventory_left}
@@ -221,6 +224,47 @@ origins =
     ∷ line (dwell_of A (ones_from (2 ^ 62 - 10)) cells_a [] 0 3) (refused 14)
     ∷ line (subinventory_of A (ones_from (2 ^ 62 - 10)) cells_a [] 3) empty
     ∷ line (list_of A (ones_from (2 ^ 62 - 10)) cells_a [] (0 ∷ []) 1) (refused 14)
+    ∷ []
+
+-- ---- steps
+-- over cells of its counts, the rank of each of these samples; bit 0 is sample 100
+abbrev pub ranks_of : List ℕ → List ℕ → List (Outcome ℕ)
+ranks_of cells xs = map (rank_of A (ones_from 100) cells []) xs
+
+-- what so many turns give in a record of ten bits from sample 100 on, and the places after them
+abbrev pub turns : ℕ → ℕ → ℕ → List (Outcome (Option ℕ) × ℕ)
+turns word zero x = []
+turns word (suc n) x =
+    (turn_of (word ∷ []) 10 Ones 100 x, place_after (turn_of (word ∷ []) 10 Ones 100 x) x)
+    ∷ turns word n (place_after (turn_of (word ∷ []) 10 Ones 100 x) x)
+
+abbrev pub steps : List Line
+steps =
+    -- how many of A's ones lie before each sample, not one that lies at it; 17 outside
+    line (ranks_of cells_a (100 ∷ 101 ∷ 102 ∷ 104 ∷ 105 ∷ 109 ∷ 110 ∷ [])) (map answer (0 ∷ 0 ∷ 1 ∷ 1 ∷ 2 ∷ 3 ∷ 4 ∷ []))
+    ∷ line (ranks_of cells_a (99 ∷ 111 ∷ [])) (refused 17 ∷ refused 17 ∷ [])
+    -- on foreign cells the walk is the definition: a start at the sample is used, and bit 0 where none lies at or before it
+    ∷ line (ranks_of (0 ∷ 0 ∷ 1 ∷ 0 ∷ 10 ∷ []) (100 ∷ 101 ∷ 102 ∷ 110 ∷ [])) (map answer (0 ∷ 2 ∷ 3 ∷ 6 ∷ []))
+    ∷ line (ranks_of (4 ∷ 0 ∷ 6 ∷ 0 ∷ 10 ∷ []) (102 ∷ [])) (answer 1 ∷ [])
+    -- 10, where the sample lies before them too: equal starts, falling ones, one at len, one past 2^62 by a cell with top bit 0
+    ∷ line (ranks_of (1 ∷ 0 ∷ 1 ∷ 0 ∷ 10 ∷ []) (100 ∷ [])) (refused 10 ∷ [])
+    ∷ line (ranks_of (6 ∷ 0 ∷ 1 ∷ 0 ∷ 10 ∷ []) (100 ∷ [])) (refused 10 ∷ [])
+    ∷ line (ranks_of (1 ∷ 0 ∷ 10 ∷ 0 ∷ 10 ∷ []) (100 ∷ [])) (refused 10 ∷ [])
+    ∷ line (ranks_of (1 ∷ 0 ∷ (2 ^ 62 + 1) ∷ 0 ∷ 10 ∷ []) (100 ∷ [])) (refused 10 ∷ [])
+    -- the closing cell is no start: it may be anything
+    ∷ line (ranks_of (1 ∷ 0x30000 ∷ 6 ∷ 0x30000 ∷ 0 ∷ []) (110 ∷ [])) (answer 4 ∷ [])
+    -- 7 and 9 before 17, 17 before 10
+    ∷ line (rank_of A (record { plan = (ones_from 100).plan; origin = 100; inventory_len = 5; spill_len = 1 }) cells_a [] 99) (refused 7)
+    ∷ line (next_of A (summary_from 100 (parameters Ones 10 11 1 0 0) 13 0) 99) (refused 9)
+    ∷ line (ranks_of (6 ∷ 0 ∷ 1 ∷ 0 ∷ 10 ∷ []) (99 ∷ [])) (refused 17 ∷ [])
+    -- next and previous: from a sample on, and before it
+    ∷ line (map (next_of A (ones_from 100)) (101 ∷ 110 ∷ 99 ∷ 111 ∷ [])) (answer (Some 101) ∷ answer None ∷ refused 17 ∷ refused 17 ∷ [])
+    ∷ line (map (previous_of A (ones_from 100)) (101 ∷ 110 ∷ 99 ∷ 111 ∷ []))
+    (answer None ∷ answer (Some 109) ∷ refused 17 ∷ refused 17 ∷ [])
+    -- turns to none, which stays; and a walker outside of its record
+    ∷ line (turns 0x252 4 105) ((answer (Some 106), 107) ∷ (answer (Some 109), 110) ∷ (answer None, 110) ∷ (answer None, 110) ∷ [])
+    ∷ line (turns 0b10 2 104) ((answer None, 104) ∷ (answer None, 104) ∷ [])
+    ∷ line (turns 0x252 1 99) ((refused 17, 99) ∷ [])
     ∷ []
 
 -- ---- images

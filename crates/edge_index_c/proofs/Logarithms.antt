@@ -11,13 +11,13 @@ use lib.ListN.{length, get_or}
 use borrow.Author.Tests.{lt-ltb, ne_eqb}
 use Rattle.rank_sel.specs.Outcome.{Outcome, answer, refused, refuse_if, Conditions, refuse_by, and_then}
 use Rattle.std.proofs.lemmas.Bool.{cases_lt}
-use Rattle.bit_record.specs.Record.{len_too_large, origin_too_large, too_few_words, of_record_from, count_of}
+use Rattle.bit_record.specs.Record.{len_too_large, origin_too_large, too_few_words, of_record_from, of_sample, count_of}
 use Rattle.bit_record.specs.declared.Polarity.{Polarity}
 use Rattle.spacing.specs.Spacing.{N, L, M, S, fixed, power, rule, max_log2_words, chosen_plan, plan_of}
 use Rattle.spacing.specs.declared.Choice.{Choice}
 use Rattle.spacing.specs.declared.Choice.TheVariants.{Default, Span, Power, Overhead, Fixed}
 use Rattle.spacing.specs.declared.Parameters.{Parameters}
-use Rattle.inventory.specs.Lawful.{unlawful}
+use Rattle.inventory.specs.Lawful.{unlawful, of_summary, of_cells}
 use Rattle.inventory.specs.Numbers.{cut, summary_by, summary_at}
 use Rattle.inventory.specs.declared.summary.Summary.{Summary}
 use Rattle.build_inventory.specs.Build.{fitted, size_of, build_from, build_of, same_plan, same_summary, check_of}
@@ -25,8 +25,10 @@ use Rattle.build_inventory.specs.Compare.{same_index}
 use Rattle.build_inventory.specs.Positions.{pos_in}
 use Rattle.build_inventory.proofs.Outcomes.{admission}
 use Rattle.read_inventory.specs.Jump.{sample_of, select_of, hint_sample, hint_of, dwell_at, dwell_of, store_of, subinventory_of}
-use Rattle.read_inventory.specs.Tests.{of_index, of_rank, of_ranks}
+use Rattle.read_inventory.specs.Tests.{of_rank, of_ranks}
 use Rattle.select_list.specs.List.{of_list, walk_of, list_of}
+use Rattle.rank_inventory.specs.Rank.{rank_at, rank_of}
+use Rattle.step_knob.specs.Step.{edge_from, edge_before, next_of, previous_of, walker_at, open_of}
 use Rattle.index_image.specs.Image.{write_of}
 use Rattle.edge_index_c.specs.Codes.{choice_by, choice_at}
 use Rattle.edge_index_c.specs.Logarithms.{SameChoice, SameAnswers}
@@ -119,10 +121,10 @@ over_differs t u o l m s = ⊎_elim (λ (h : 63 < L t.plan). simp (ne_eqb (L t.p
 refusal_of : List ℕ → ℕ → ℕ → ℕ
 refusal_of ws len origin = cond (len_too_large len) 1 (cond (origin_too_large origin len) 14 (cond (too_few_words ws len) 2 9))
 
-unlawful_refused : {A : Type 0} (ws : List ℕ) (t : Summary) (inv sp : List ℕ) (cs : Conditions) (rest : Outcome A) → unlawful t ≡ true
-    → refuse_by (of_index ws t inv sp ++ cs) rest ≡ refused (refusal_of ws t.plan.len t.origin)
+unlawful_refused : {A : Type 0} (ws : List ℕ) (t : Summary) (cs : Conditions) (rest : Outcome A) → unlawful t ≡ true
+    → refuse_by (of_record_from ws t.plan.len t.origin ++ (of_summary t ++ cs)) rest ≡ refused (refusal_of ws t.plan.len t.origin)
 unfolding refusal_of
-unlawful_refused {A} ws t inv sp cs rest e =
+unlawful_refused {A} ws t cs rest e =
     rw e (go (len_too_large t.plan.len) (origin_too_large t.origin t.plan.len) (too_few_words ws t.plan.len))
   where
     go : (a b c : Bool)
@@ -138,21 +140,23 @@ data Alike (t u : Summary) : Type 0 where
   both : t.plan.len ≡ u.plan.len → t.origin ≡ u.origin → Over t → Over u → Alike t u
 
 module _ {t u : Summary} where
-  tests_alike : {A : Type 0} → Alike t u → (ws inv sp : List ℕ) (cs : Summary → Conditions) (rest : Summary → Outcome A)
-      → refuse_by (of_index ws t inv sp ++ cs t) (rest t) ≡ refuse_by (of_index ws u inv sp ++ cs u) (rest u)
-  tests_alike (equal e) ws inv sp cs rest = ap (λ (z : Summary). refuse_by (of_index ws z inv sp ++ cs z) (rest z)) e
-  tests_alike (both e f o p) ws inv sp cs rest =
-      unlawful_refused ws t inv sp (cs t) (rest t) (over_unlawful t o)
+  tests_alike : {A : Type 0} → Alike t u → (ws : List ℕ) (cs : Summary → Conditions) (rest : Summary → Outcome A)
+      → refuse_by (of_record_from ws t.plan.len t.origin ++ (of_summary t ++ cs t)) (rest t)
+      ≡ refuse_by (of_record_from ws u.plan.len u.origin ++ (of_summary u ++ cs u)) (rest u)
+  tests_alike (equal e) ws cs rest =
+      ap (λ (z : Summary). refuse_by (of_record_from ws z.plan.len z.origin ++ (of_summary z ++ cs z)) (rest z)) e
+  tests_alike (both e f o p) ws cs rest =
+      unlawful_refused ws t (cs t) (rest t) (over_unlawful t o)
       ∙ ap₂ (λ (n k : ℕ). refused (refusal_of ws n k)) e f
-      ∙ sym (unlawful_refused ws u inv sp (cs u) (rest u) (over_unlawful u p))
+      ∙ sym (unlawful_refused ws u (cs u) (rest u) (over_unlawful u p))
 
   store_alike : Alike t u → (ws inv sp : List ℕ) (r : ℕ) → subinventory_of ws t inv sp r ≡ subinventory_of ws u inv sp r
   unfolding subinventory_of store_of hint_of
   store_alike (equal e) ws inv sp r = ap (λ (z : Summary). subinventory_of ws z inv sp r) e
   store_alike (both e f o p) ws inv sp r =
       rw (
-        unlawful_refused ws t inv sp (of_rank (N t.plan) r) (hint_sample t inv sp r) (over_unlawful t o),
-        unlawful_refused ws u inv sp (of_rank (N u.plan) r) (hint_sample u inv sp r) (over_unlawful u p),
+        unlawful_refused ws t (of_cells t inv sp ++ of_rank (N t.plan) r) (hint_sample t inv sp r) (over_unlawful t o),
+        unlawful_refused ws u (of_cells u inv sp ++ of_rank (N u.plan) r) (hint_sample u inv sp r) (over_unlawful u p),
       )
 
   write_alike : Alike t u → (inv sp : List ℕ) (lent : ℕ) → write_of t inv sp lent ≡ write_of u inv sp lent
@@ -170,18 +174,30 @@ module _ {t u : Summary} where
   verdict_alike (both e f x y) b (refused n) small = refl
 
   answers_alike : Alike t u → SameAnswers t u
-  unfolding check_of select_of hint_of dwell_of list_of
+  unfolding check_of select_of hint_of dwell_of list_of rank_of next_of previous_of open_of
   answers_alike w = record {
     check =
         λ ws len origin pol c inv sp. verdict_alike w (λ v. same_index (pos_in ws v.plan) v.plan inv sp)
         (build_of ws len origin pol c (length inv) (length sp))
         (λ v e. let a = (admission ws len origin pol c (length inv) (length sp) v
         e).plans in (a.small_l, a.small_m, omega (arith, a.spaced, a.small_l)));
-    select = λ ws inv sp r. tests_alike w ws inv sp (λ z. of_rank (N z.plan) r) (λ z. sample_of ws z inv sp r);
-    hint = λ ws inv sp r. tests_alike w ws inv sp (λ z. of_rank (N z.plan) r) (λ z. hint_sample z inv sp r);
+    select = λ ws inv sp r. tests_alike w ws (λ z. of_cells z inv sp ++ of_rank (N z.plan) r) (λ z. sample_of ws z inv sp r);
+    hint = λ ws inv sp r. tests_alike w ws (λ z. of_cells z inv sp ++ of_rank (N z.plan) r) (λ z. hint_sample z inv sp r);
     store = store_alike w;
-    dwell = λ ws inv sp a b. tests_alike w ws inv sp (λ z. of_ranks (N z.plan) a b) (λ z. dwell_at ws z inv sp a b);
-    list = λ ws inv sp ranks lent. tests_alike w ws inv sp (λ z. of_list (N z.plan) ranks lent) (λ z. walk_of ws z inv sp ranks);
+    dwell = λ ws inv sp a b. tests_alike w ws (λ z. of_cells z inv sp ++ of_ranks (N z.plan) a b) (λ z. dwell_at ws z inv sp a b);
+    list =
+        λ ws inv sp ranks lent. tests_alike w ws (λ z. of_cells z inv sp ++ of_list (N z.plan) ranks lent) (λ z. walk_of ws z inv sp ranks);
+    rank =
+        λ ws inv sp x. tests_alike w ws (λ z. of_cells z inv sp ++ of_sample z.origin z.plan.len x) (λ z. rank_at ws z inv (x - z.origin));
+    next =
+        λ ws x. tests_alike w ws (λ z. of_sample z.origin z.plan.len x)
+        (λ z. answer (edge_from ws z.plan.len z.plan.polarity z.origin x));
+    previous =
+        λ ws x. tests_alike w ws (λ z. of_sample z.origin z.plan.len x)
+        (λ z. answer (edge_before ws z.plan.len z.plan.polarity z.origin x));
+    opened =
+        λ words x. tests_alike w words.now (λ z. of_sample z.origin z.plan.len x)
+        (λ z. answer (walker_at words z.plan.len z.plan.polarity z.origin x));
     write = write_alike w;
   }
 

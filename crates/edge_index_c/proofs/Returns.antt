@@ -1,5 +1,5 @@
 -- How what a call leaves follows from what the entry told.
-use Rattle.std.specs.Prelude.{Result, Ok, Err, IsOkAnd, MatchResult}
+use Rattle.std.specs.Prelude.{Option, Result, Ok, Err, IsOkAnd, MatchResult}
 use mathlib.Core.List.{List}
 use mathlib.Core.Path.{◌≡◌, ap, ◌∙◌}
 use Prim.Native.Nat.{ℕ}
@@ -8,7 +8,7 @@ use Rattle.rank_sel.specs.declared.Refusal.{Refusal}
 use Rattle.inventory.specs.Numbers.{numbers_of}
 use Rattle.inventory.specs.declared.summary.Summary.{Summary}
 use Rattle.build_inventory.specs.Build.{BuiltAs, inventory_after, spill_after}
-use Rattle.edge_index_c.specs.Calls.{Returned, BuiltC, status_of, out_of}
+use Rattle.edge_index_c.specs.Calls.{Returned, ReturnedEdge, edge_out, BuiltC, status_of, out_of}
 
 module _ {A : Type 0} {o : Outcome A} where
   pub returned_no : {n r : ℕ} {x : A} → refused n ≡ o → r ≡ n → Returned o r x x
@@ -19,6 +19,10 @@ module _ {A : Type 0} {o : Outcome A} where
 
   pub returned_as : {q : Outcome A} {r : ℕ} {x₀ x : A} → q ≡ o → Returned q r x₀ x → Returned o r x₀ x
   returned_as {x₀ = x₀} e w = record { status = w.status ∙ ap status_of e; out = w.out ∙ ap (λ (q : Outcome A). out_of q x₀) e }
+
+-- an edge likewise
+pub returned_edge : {o q : Outcome (Option ℕ)} {r e₀ f₀ e f : ℕ} → q ≡ o → ReturnedEdge q r e₀ f₀ e f → ReturnedEdge o r e₀ f₀ e f
+returned_edge {e₀ = e₀} same w = returned_as (ap (λ z. and_then z (λ x. answer (edge_out e₀ x))) same) w
 
 -- an answer that is mapped, and a refusal that is not
 pub mapped : {A B : Type 0} (f : A → B) (r : Result A Refusal) (s : Result B Refusal)

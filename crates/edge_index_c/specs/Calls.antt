@@ -1,16 +1,20 @@
 -- What each call of include/edge_index.h returns and writes, by the definitions of the entry that it stands for.
-use Rattle.std.specs.Prelude.{Bool, true, false, not, List, ◌⊎◌, ◌↔◌, ◌≡◌, ℕ, ◌+◌, ◌≤◌, ◌<◌, ltb, Float, length, get_or}
+use Rattle.std.specs.Prelude.{Bool, true, false, not, List, [], ◌∷◌, ◌⊎◌, ◌↔◌, ◌≡◌, ℕ, ◌+◌, ◌≤◌, ◌<◌, ltb, Float, length, get_or, set, Option, Some, None}
+use Rattle.std.specs.Borrow.{Bor}
 use Rattle.rank_sel.specs.Outcome.{Outcome, answer, refused, refuse_if, and_then}
 use Rattle.select_in_word.specs.declared.One.{One}
 use Rattle.bit_record.specs.Record.{count_of}
 use Rattle.spacing.specs.Spacing.{plan_of}
-use Rattle.inventory.specs.Numbers.{polarity_at, summary_at, numbers_of}
+use Rattle.inventory.specs.Numbers.{polarity_at, polarity_code, summary_at, numbers_of}
 use Rattle.inventory.specs.declared.summary.Summary.{Summary}
 use Rattle.build_inventory.specs.Build.{size_of, build_of, check_of, inventory_after, spill_after}
 use Rattle.build_inventory.specs.declared.Sizes.{Sizes}
 use Rattle.read_inventory.specs.Read.{Hint}
 use Rattle.read_inventory.specs.Jump.{Part, of_inventory, of_spill, empty, select_of, hint_of, dwell_of, store_of}
 use Rattle.select_list.specs.List.{Listed, list_of, total_of, places_after}
+use Rattle.rank_inventory.specs.Rank.{rank_of}
+use Rattle.step_knob.specs.Step.{next_of, previous_of, open_of, turn_of, place_after}
+use Rattle.step_knob.specs.declared.walker.Walker.{Walker}
 use Rattle.index_image.specs.Image.{write_of, length_of, bytes_after, read_of, cells_after, inventory_in, spill_in}
 use Rattle.edge_index_c.specs.Codes.{bad_code, known, choice_at, uncounted}
 
@@ -96,6 +100,51 @@ list_c ws s inv sp ranks lent = if_read s (list_of ws (summary_at s) inv sp rank
 pub record ListedC (o : Outcome Listed) (l₀ l : List ℕ) (r out₀ out : ℕ) : Type 0 where
   pub returned : Returned (total_of o) r out₀ out
   pub places : l ≡ places_after o l₀
+
+unfoldable pub rank_c : List ℕ → List ℕ → List ℕ → List ℕ → ℕ → Outcome ℕ
+rank_c ws s inv sp x = if_read s (rank_of ws (summary_at s) inv sp x)
+
+-- ---- steps
+-- an edge and whether there is one, as C has them
+pub record EdgeOut : Type 0 where
+  pub edge : ℕ
+  pub found : ℕ
+
+abbrev pub edge_as : ℕ → ℕ → EdgeOut
+edge_as edge found = record { edge = edge; found = found }
+
+-- an edge goes out with a 1; none is a 0, and leaves the edge e₀ that stood there
+abbrev pub edge_out : ℕ → Option ℕ → EdgeOut
+edge_out e₀ (Some e) = edge_as e 1
+edge_out e₀ None = edge_as e₀ 0
+
+-- a call whose outcome is o returned r, and behind its out-parameters stood e₀ and f₀ and stand e and f
+abbrev pub ReturnedEdge : Outcome (Option ℕ) → ℕ → ℕ → ℕ → ℕ → ℕ → Type 0
+ReturnedEdge o r e₀ f₀ e f = Returned (and_then o (λ x. answer (edge_out e₀ x))) r (edge_as e₀ f₀) (edge_as e f)
+
+unfoldable pub next_c : List ℕ → List ℕ → ℕ → Outcome (Option ℕ)
+next_c ws s x = if_read s (next_of ws (summary_at s) x)
+
+unfoldable pub previous_c : List ℕ → List ℕ → ℕ → Outcome (Option ℕ)
+previous_c ws s x = if_read s (previous_of ws (summary_at s) x)
+
+-- a walker without its words is four numbers
+abbrev pub walker_numbers : Walker → List ℕ
+walker_numbers w = w.len ∷ polarity_code w.polarity ∷ w.origin ∷ w.place ∷ []
+
+unfoldable pub open_c : Bor (List ℕ) → List ℕ → ℕ → Outcome (List ℕ)
+open_c ws s x = if_read s (and_then (open_of ws (summary_at s) x) (λ w. answer (walker_numbers w)))
+
+-- a walker's polarity is tested before all else
+unfoldable pub turn_c : List ℕ → List ℕ → Outcome (Option ℕ)
+turn_c ws w =
+    refuse_if (ltb 1 (get_or w 1 0)) bad_code
+    (turn_of ws (get_or w 0 0) (polarity_at (get_or w 1 0)) (get_or w 2 0) (get_or w 3 0))
+
+-- a turn of the walker w₀ returned r, and left w, e and f
+pub record TurnedC (ws w₀ w : List ℕ) (r e₀ f₀ e f : ℕ) : Type 0 where
+  pub returned : ReturnedEdge (turn_c ws w₀) r e₀ f₀ e f
+  pub walker : w ≡ set w₀ 3 (place_after (turn_c ws w₀) (get_or w₀ 3 0))
 
 -- ---- images
 -- where so many bytes are lent

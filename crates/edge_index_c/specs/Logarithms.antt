@@ -1,6 +1,7 @@
 -- Cutting a logarithm to 32 bits alters no answer: a larger one is refusal 3 of a choice, 9 of a summary and a no of check,
 -- cut or not. Proved of `choice_at` and `summary_at`, and of the same without the cut, in proofs/Logarithms.antt.
 use Rattle.std.specs.Prelude.{List, ◌≡◌, ℕ}
+use Rattle.std.specs.Borrow.{Bor}
 use Rattle.bit_record.specs.declared.Polarity.{Polarity}
 use Rattle.spacing.specs.Spacing.{plan_of}
 use Rattle.spacing.specs.declared.Choice.{Choice}
@@ -8,6 +9,8 @@ use Rattle.inventory.specs.declared.summary.Summary.{Summary}
 use Rattle.build_inventory.specs.Build.{size_of, build_of, check_of}
 use Rattle.read_inventory.specs.Jump.{select_of, hint_of, dwell_of, subinventory_of}
 use Rattle.select_list.specs.List.{list_of}
+use Rattle.rank_inventory.specs.Rank.{rank_of}
+use Rattle.step_knob.specs.Step.{next_of, previous_of, open_of}
 use Rattle.index_image.specs.Image.{write_of}
 
 pub record SameChoice (c d : Choice) : Type 0 where
@@ -23,4 +26,8 @@ pub record SameAnswers (t u : Summary) : Type 0 where
   pub store : (ws inv sp : List ℕ) (r : ℕ) → subinventory_of ws t inv sp r ≡ subinventory_of ws u inv sp r
   pub dwell : (ws inv sp : List ℕ) (a b : ℕ) → dwell_of ws t inv sp a b ≡ dwell_of ws u inv sp a b
   pub list : (ws inv sp ranks : List ℕ) (lent : ℕ) → list_of ws t inv sp ranks lent ≡ list_of ws u inv sp ranks lent
+  pub rank : (ws inv sp : List ℕ) (x : ℕ) → rank_of ws t inv sp x ≡ rank_of ws u inv sp x
+  pub next : (ws : List ℕ) (x : ℕ) → next_of ws t x ≡ next_of ws u x
+  pub previous : (ws : List ℕ) (x : ℕ) → previous_of ws t x ≡ previous_of ws u x
+  pub opened : (words : Bor (List ℕ)) (x : ℕ) → open_of words t x ≡ open_of words u x
   pub write : (inv sp : List ℕ) (lent : ℕ) → write_of t inv sp lent ≡ write_of u inv sp lent

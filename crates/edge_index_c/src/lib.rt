@@ -5,11 +5,11 @@
 ghost use Rattle.std.specs.Prelude.{true, false, ◌≡◌, ltb, get_or, length, MatchOption};
 ghost use Rattle.rank_sel.specs.Outcome.{number_of, outcome};
 ghost use Rattle.select_in_word.specs.Select.{select_in_word};
-ghost use Rattle.edge_index_c.specs.Calls.{BuiltC, ListedC, ReadC, Returned, WroteC, build_c, cells_as, check_c, count_c, dwell_c, hint_as, hint_c, list_c, one_as, plan_c, select_c, size_c, sizes_as, subinventory_c, verdict_of, write_c};
+ghost use Rattle.edge_index_c.specs.Calls.{BuiltC, ListedC, ReadC, Returned, ReturnedEdge, TurnedC, WroteC, build_c, cells_as, check_c, count_c, dwell_c, hint_as, hint_c, list_c, next_c, one_as, open_c, plan_c, previous_c, rank_c, select_c, size_c, sizes_as, subinventory_c, verdict_of, walker_numbers, write_c};
 ghost use Rattle.inventory.specs.Numbers.{numbers_of as numbers_in, polarity_at, summary_at};
 ghost use Rattle.edge_index_c.specs.Codes.{choice_at, known, uncounted};
 
-use edge_index::{CellPart, Choice, Parameters, Polarity, Refusal, Summary};
+use edge_index::{CellPart, Choice, Parameters, Polarity, Refusal, Summary, Walker};
 use inventory::{SUMMARY_NUMBERS, cut, numbers_of, polarity_at, summary_at};
 
 // C's statuses, polarities and kinds are numbers: here they are made of refusals, polarities and choices, and read as such. Its
@@ -329,6 +329,128 @@ pub fn edge_index_select_list(
     };
     let told = edge_index::select_list(words, summary, inventory, spill, ranks, places);
     give(told, words_read)
+}
+
+pub fn edge_index_rank(
+    words: &[u64],
+    summary: &[u64; SUMMARY_NUMBERS],
+    inventory: &[u64],
+    spill: &[u64],
+    sample: u64,
+    rank: &mut u64,
+) -> u32
+    ensures { Returned (rank_c words.now summary.now inventory.now spill.now sample) result rank.old rank.new }
+{
+    let Some(summary) = read(summary) else {
+        return BAD_CODE;
+    };
+    give(
+        edge_index::rank(words, summary, inventory, spill, sample),
+        rank,
+    )
+}
+
+// An edge goes out with a 1, and none as a 0 beside the edge that stood there.
+fn give_edge(told: Result<Option<u64>, Refusal>, edge: &mut u64, found: &mut u64) -> u32
+    ensures { ReturnedEdge (outcome told) result edge.old found.old edge.new found.new }
+{
+    match told {
+        Ok(Some(sample)) => {
+            *edge = sample;
+            *found = 1;
+            0
+        }
+        Ok(None) => {
+            *found = 0;
+            0
+        }
+        Err(refusal) => status(refusal),
+    }
+}
+
+pub fn edge_index_next(
+    words: &[u64],
+    summary: &[u64; SUMMARY_NUMBERS],
+    sample: u64,
+    edge: &mut u64,
+    found: &mut u64,
+) -> u32
+    ensures { ReturnedEdge (next_c words.now summary.now sample) result edge.old found.old edge.new found.new }
+{
+    let Some(summary) = read(summary) else {
+        return BAD_CODE;
+    };
+    give_edge(edge_index::next(words, summary, sample), edge, found)
+}
+
+pub fn edge_index_previous(
+    words: &[u64],
+    summary: &[u64; SUMMARY_NUMBERS],
+    sample: u64,
+    edge: &mut u64,
+    found: &mut u64,
+) -> u32
+    ensures { ReturnedEdge (previous_c words.now summary.now sample) result edge.old found.old edge.new found.new }
+{
+    let Some(summary) = read(summary) else {
+        return BAD_CODE;
+    };
+    give_edge(edge_index::previous(words, summary, sample), edge, found)
+}
+
+// The numbers of a walker: len, polarity, origin and place. Its words are C's, which hands them in for each turn.
+pub const WALKER_NUMBERS: usize = 4;
+
+const PLACE: usize = 3;
+
+fn walker_numbers(walker: Walker<'_>) -> [u64; WALKER_NUMBERS]
+    ensures { result ≡ walker_numbers walker.entry }
+{
+    [
+        walker.len,
+        walker.polarity as u64,
+        walker.origin,
+        walker.place,
+    ]
+}
+
+pub fn edge_index_open(
+    words: &[u64],
+    summary: &[u64; SUMMARY_NUMBERS],
+    sample: u64,
+    walker: &mut [u64; WALKER_NUMBERS],
+) -> u32
+    ensures { Returned (open_c words.entry summary.now sample) result walker.old walker.new }
+{
+    let Some(summary) = read(summary) else {
+        return BAD_CODE;
+    };
+    let told = Walker::open(words, summary, sample);
+    give(told.map(walker_numbers), walker)
+}
+
+pub fn edge_index_turn(
+    words: &[u64],
+    walker: &mut [u64; WALKER_NUMBERS],
+    edge: &mut u64,
+    found: &mut u64,
+) -> u32
+    ensures { TurnedC words.now walker.old walker.new result edge.old found.old edge.new found.new }
+{
+    let [len, code, origin, place] = *walker;
+    if code > 1 {
+        return BAD_CODE;
+    }
+    let handed = Walker {
+        words,
+        len,
+        polarity: polarity_at(code),
+        origin,
+        place,
+    };
+    let turn = handed.turn();
+    walker[PLACE] = turn.walker.place;
+    give_edge(turn.edge, edge, found)
 }
 
 pub fn edge_index_write_image(

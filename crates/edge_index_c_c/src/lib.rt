@@ -5,8 +5,9 @@
 
 ghost use Rattle.std.specs.Prelude.{length};
 ghost use Rattle.select_in_word.specs.Select.{select_in_word};
-ghost use Rattle.edge_index_c.specs.Calls.{BuiltC, ListedC, ReadC, Returned, WroteC, build_c, cells_as, check_c, count_c, dwell_c, hint_as, hint_c, list_c, one_as, plan_c, select_c, size_c, sizes_as, subinventory_c, write_c};
+ghost use Rattle.edge_index_c.specs.Calls.{BuiltC, ListedC, ReadC, Returned, ReturnedEdge, TurnedC, WroteC, build_c, cells_as, check_c, count_c, dwell_c, hint_as, hint_c, list_c, next_c, one_as, open_c, plan_c, previous_c, rank_c, select_c, size_c, sizes_as, subinventory_c, write_c};
 
+use edge_index_c::WALKER_NUMBERS;
 use inventory::SUMMARY_NUMBERS;
 
 #[unsafe(no_mangle)]
@@ -179,6 +180,70 @@ pub extern "C" fn edge_index_select_list(
     edge_index_c::edge_index_select_list(
         words, summary, inventory, spill, ranks, places, words_read,
     )
+}
+
+#[unsafe(no_mangle)]
+pub extern "C" fn edge_index_rank(
+    words: &[u64],
+    summary: &[u64; SUMMARY_NUMBERS],
+    inventory: &[u64],
+    spill: &[u64],
+    sample: u64,
+    rank: &mut u64,
+) -> u32
+    ensures { Returned (rank_c words.now summary.now inventory.now spill.now sample) result rank.old rank.new }
+{
+    edge_index_c::edge_index_rank(words, summary, inventory, spill, sample, rank)
+}
+
+#[unsafe(no_mangle)]
+pub extern "C" fn edge_index_next(
+    words: &[u64],
+    summary: &[u64; SUMMARY_NUMBERS],
+    sample: u64,
+    edge: &mut u64,
+    found: &mut u64,
+) -> u32
+    ensures { ReturnedEdge (next_c words.now summary.now sample) result edge.old found.old edge.new found.new }
+{
+    edge_index_c::edge_index_next(words, summary, sample, edge, found)
+}
+
+#[unsafe(no_mangle)]
+pub extern "C" fn edge_index_previous(
+    words: &[u64],
+    summary: &[u64; SUMMARY_NUMBERS],
+    sample: u64,
+    edge: &mut u64,
+    found: &mut u64,
+) -> u32
+    ensures { ReturnedEdge (previous_c words.now summary.now sample) result edge.old found.old edge.new found.new }
+{
+    edge_index_c::edge_index_previous(words, summary, sample, edge, found)
+}
+
+#[unsafe(no_mangle)]
+pub extern "C" fn edge_index_open(
+    words: &[u64],
+    summary: &[u64; SUMMARY_NUMBERS],
+    sample: u64,
+    walker: &mut [u64; WALKER_NUMBERS],
+) -> u32
+    ensures { Returned (open_c words.entry summary.now sample) result walker.old walker.new }
+{
+    edge_index_c::edge_index_open(words, summary, sample, walker)
+}
+
+#[unsafe(no_mangle)]
+pub extern "C" fn edge_index_turn(
+    words: &[u64],
+    walker: &mut [u64; WALKER_NUMBERS],
+    edge: &mut u64,
+    found: &mut u64,
+) -> u32
+    ensures { TurnedC words.now walker.old walker.new result edge.old found.old edge.new found.new }
+{
+    edge_index_c::edge_index_turn(words, walker, edge, found)
 }
 
 #[unsafe(no_mangle)]

@@ -33,6 +33,7 @@ pub struct Request<'a, F> {
     pub origin: u64,
     pub choice: Choice,
     source: Option<Source<F>>,
+    pub at: Option<u64>,
     pub edges: ArrayVec<u64, MOST_EDGES>,
     pub save: Option<&'a [u8]>,
     pub index: Option<F>,
@@ -113,6 +114,7 @@ impl<'a, F: Drop> Request<'a, F> {
             origin: 0,
             choice: Choice::Default,
             source: None,
+            at: None,
             edges: ArrayVec::new(),
             save: None,
             index: None,
@@ -175,6 +177,7 @@ pub fn parse_arguments<'a, R: Files>(
         match text {
             b"--samples" => request.samples = Some(number(request.value(texts.next())?)?),
             b"--origin" => request.origin = number(request.value(texts.next())?)?,
+            b"--at" => request.at = Some(number(request.value(texts.next())?)?),
             b"--span" => {
                 let span = number(request.value(texts.next())?)?;
                 request.choice = Choice::Span(span, MAX_LOG2_WORDS);

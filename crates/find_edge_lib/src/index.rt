@@ -1,7 +1,7 @@
 // A record and the index over it, untested here, since each call of the library tests it; and what the program shows of them.
 use crate::report::{self, Fault, Stop, TextError};
 use crate::saved::write_file;
-use edge_index::{Summary, dwell, select, write_image};
+use edge_index::{Summary, dwell, next, previous, rank, select, write_image};
 use std::rt::Files;
 
 #[derive(Clone, Copy)]
@@ -58,11 +58,30 @@ impl<'a> Index<'a> {
         Ok(())
     }
 
-    // The count, then the edges asked for, or what the index is like.
-    pub fn show(&self, edges: &[u64], out: &impl Print) -> Result<(), Stop<'static>> {
+    // The edges before a sample, and those on either side of it.
+    fn show_at(&self, sample: u64, out: &impl Print) -> Result<(), Stop<'static>> {
+        let polarity = self.summary.plan.polarity;
+        let rank = rank(self.words, self.summary, self.inventory, self.spill, sample)?;
+        report::rank_line(out, polarity, sample, rank)?;
+        let before = previous(self.words, self.summary, sample)?;
+        report::neighbour_line(out, polarity, "previous", before)?;
+        let after = next(self.words, self.summary, sample)?;
+        report::neighbour_line(out, polarity, "next", after)?;
+        Ok(())
+    }
+
+    // The count, then the sample and the edges asked for, or what the index is like.
+    pub fn show(
+        &self,
+        at: Option<u64>,
+        edges: &[u64],
+        out: &impl Print,
+    ) -> Result<(), Stop<'static>> {
         let plan = self.summary.plan;
         report::count_line(out, plan.polarity, plan.num)?;
-        if edges.is_empty() {
+        if let Some(sample) = at {
+            self.show_at(sample, out)?;
+        } else if edges.is_empty() {
             report::spacing_line(out, plan)?;
             report::cells_line(out, self.summary.inventory_len, self.summary.spill_len)?;
         }

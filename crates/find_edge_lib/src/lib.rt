@@ -104,7 +104,7 @@ fn answer<'a, R: Files + Input>(
     if let Some(name) = request.save {
         index.save(rt, name, image, out)?;
     }
-    index.show(&request.edges, out)
+    index.show(request.at, &request.edges, out)
 }
 
 // The program: arguments that end in a zero byte each, buffers, and where lines and error lines go.

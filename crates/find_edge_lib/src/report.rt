@@ -28,7 +28,7 @@ impl fmt::Display for TextError {
             ),
             TextError::TooLarge(most) => write!(f, " is too large: write at most {most}"),
             TextError::UnknownOption => f.write_str(
-                " is no option: use --zeros, --samples N, --origin N, --span N, --power L, --overhead P, --save FILE, --index FILE or --help",
+                " is no option: use --zeros, --samples N, --origin N, --at N, --span N, --power L, --overhead P, --save FILE, --index FILE or --help",
             ),
             TextError::Missing => f.write_str(
                 ": no such file: give the name of a capture, or - for standard input",
@@ -172,6 +172,9 @@ impl fmt::Display for Advice {
             Refusal::PlaceTooShort => f.write_str(
                 "the place is shorter than the index's image: choose a larger span, as --span 65536",
             ),
+            Refusal::SampleOutside => f.write_str(
+                "the sample is not of this capture: give --at a sample from its first to one past its last",
+            ),
         }
     }
 }
@@ -234,7 +237,7 @@ impl<'a> Stop<'a> {
 fn usage(to: &impl Print) -> io::Result<()> {
     to.print(
         "\
-find_edge [FILE] [EDGE ..] [--zeros] [--samples N] [--origin N]
+find_edge [FILE] [EDGE ..] [--zeros] [--samples N] [--origin N] [--at N]
           [--span N | --power L | --overhead P]
           [--save FILE | --index FILE] [--help]
 
@@ -243,6 +246,8 @@ EDGE          an edge to find, by its number from 0; several in rising order
 --zeros       find the samples without an edge instead
 --samples N   take the first N samples only
 --origin N    number the samples from N on, and not from 0
+--at N        print how many edges lie before sample N, and the edges on either
+              side of it: the last before it, and the first from it on
 --span N      an index entry for about every N samples; the default, N 4096
 --power L     an index entry for every 2^L edges
 --overhead P  aim at an index of P percent of the capture's size, as 12.5
@@ -251,8 +256,8 @@ EDGE          an edge to find, by its number from 0; several in rising order
 --help        print this text and stop
 
 With edge numbers it prints the count, each edge's sample, and the period from
-the edge before it. Without them it prints the count, the spacing (L, M, S) and
-the cells that the index takes.
+the edge before it. Without them and without --at it prints the count, the
+spacing (L, M, S) and the cells that the index takes.
 ",
     )
 }
@@ -271,6 +276,22 @@ pub fn count_line(to: &impl Print, polarity: Polarity, count: u64) -> io::Result
 
 pub fn edge_line(to: &impl Print, polarity: Polarity, rank: u64, sample: u64) -> io::Result<()> {
     println!(to; "{} {rank}: sample {sample}", noun(polarity))
+}
+
+pub fn rank_line(to: &impl Print, polarity: Polarity, sample: u64, rank: u64) -> io::Result<()> {
+    println!(to; "{}s before sample {sample}: {rank}", noun(polarity))
+}
+
+pub fn neighbour_line(
+    to: &impl Print,
+    polarity: Polarity,
+    which: &str,
+    edge: Option<u64>,
+) -> io::Result<()> {
+    match edge {
+        Some(sample) => println!(to; "{which} {}: sample {sample}", noun(polarity)),
+        None => println!(to; "{which} {}: none", noun(polarity)),
+    }
 }
 
 pub fn period_line(to: &impl Print, samples: u64) -> io::Result<()> {

@@ -70,9 +70,12 @@ pub refuse_then : {A B : Type 0} (b : Bool) (n : ℕ) (o : Outcome A) (go : A �
 refuse_then true n o go = refl
 refuse_then false n o go = refl
 
+pub tests_answer : {A B : Type 0} (cs : Conditions) (a : A) (go : A → Outcome B) → and_then (refuse_by cs (answer a)) go ≡ refuse_by cs (go a)
+tests_answer [] a go = refl
+tests_answer (c ∷ cs) a go = sym (refuse_then c.0 c.1 (refuse_by cs (answer a)) go) ∙ ap (refuse_if c.0 c.1) (tests_answer cs a go)
+
 pub tests_then : {A : Type 0} (cs : Conditions) (rest : Outcome A) → refuse_by cs rest ≡ and_then (test_by cs) (λ u. rest)
-tests_then [] rest = refl
-tests_then (c ∷ cs) rest = ap (refuse_if c.0 c.1) (tests_then cs rest) ∙ refuse_then c.0 c.1 (test_by cs) (λ u. rest)
+tests_then cs rest = sym (tests_answer cs tt (λ u. rest))
 
 -- some tests, and then others
 pub tests_more : {A : Type 0} (cs ds : Conditions) (rest : Outcome A) → refuse_by (cs ++ ds) rest ≡ refuse_by cs (refuse_by ds rest)
@@ -128,10 +131,20 @@ pub handed_on : {A B : Type 0} (r : Result B Refusal) (e : Refusal) → IsErr r 
 handed_on {A = A} (Err x) e h o eo go = ap (λ (z : Refusal). refused (number_of z)) h.1 ∙ ap (λ (p : Outcome A). and_then p go) eo
 handed_on {A = A} (Ok b) e h o eo go = absurd h.1
 
--- of tests, whatever comes after them
+-- of tests that answer, whatever comes after them
+pub answer_stopped : {A B : Type 0} (cs : Conditions) (a : A) (rest : Outcome B) (r : Result B Refusal) (e : Refusal)
+    → IsErr r × IsErrAnd r (λ x. x ≡ e) → refused (number_of e) ≡ refuse_by cs (answer a) → outcome r ≡ refuse_by cs rest
+answer_stopped cs a rest r e h told = handed_on r e h (refuse_by cs (answer a)) told (λ a. rest) ∙ tests_answer cs a (λ a. rest)
+
+-- their answer goes on
+pub answer_passed : {A B : Type 0} (cs : Conditions) (p a : A) → answer p ≡ refuse_by cs (answer a) → (go : A → Outcome B)
+    → go p ≡ refuse_by cs (go a)
+answer_passed {A = A} cs p a told go = ap (λ (o : Outcome A). and_then o go) told ∙ tests_answer cs a go
+
+-- of tests alone
 pub tests_handed_on : {B : Type 0} (r : Result B Refusal) (e : Refusal) → IsErr r × IsErrAnd r (λ x. x ≡ e) → (cs : Conditions)
     → refused (number_of e) ≡ test_by cs → (rest : Outcome B) → outcome r ≡ refuse_by cs rest
-tests_handed_on r e h cs ecs rest = handed_on r e h (test_by cs) ecs (λ u. rest) ∙ sym (tests_then cs rest)
+tests_handed_on r e h cs ecs rest = answer_stopped cs tt rest r e h ecs
 
 -- tests that were passed: none of the conditions holds
 pub passed_none : (cs : Conditions) → answer tt ≡ test_by cs → NoneOf cs

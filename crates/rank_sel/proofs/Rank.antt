@@ -5,6 +5,7 @@ use Prim.Native.Nat.{ℕ, zero, suc, ◌+◌, ◌≤◌, ◌<◌}
 use native.Mathlib.Nat.{add-zero, add-suc}
 use native.Mathlib.Decide.{le_ind}
 use native.Mathlib.Omega.{arith}
+use Rattle.std.proofs.lemmas.Bool.{false_from_ne_true}
 use Rattle.rank_sel.specs.Rank.{ind, rank}
 
 pub rank-suc : (f : ℕ → Bool) (p : ℕ) → rank f (suc p) ≡ rank f p + ind (f p)
@@ -48,6 +49,18 @@ rank_ext f g (suc n) h =
     let e = h n (omega arith) in
     simp (rank-suc, ih, e)
 
--- nothing selected from a on: the rank stays
-pub rank_flat : (f : ℕ → Bool) (a b : ℕ) → a ≤ b → ((q : ℕ) → a ≤ q → f q ≡ false) → rank f b ≡ rank f a
-rank_flat f a b h e = le_ind (λ (m : ℕ). rank f m ≡ rank f a) refl (λ m k ih. rank_same f m (e m k) ∙ ih) b h
+-- nothing selected between: the rank stays
+pub rank_still : (f : ℕ → Bool) (a b : ℕ) → a ≤ b → ((q : ℕ) → a ≤ q → q < b → f q ≡ false) → rank f b ≡ rank f a
+rank_still f a b h =
+    le_ind (λ (m : ℕ). ((q : ℕ) → a ≤ q → q < m → f q ≡ false) → rank f m ≡ rank f a) (λ e. refl)
+    (λ m k ih e. rank_same f m (e m k (omega arith)) ∙ ih (λ q l g. e q l (omega arith))) b h
+
+-- and back
+pub rank_gap : (f : ℕ → Bool) (a b : ℕ) → rank f a ≡ rank f b → (q : ℕ) → a ≤ q → q < b → f q ≡ false
+rank_gap f a b e q l h = false_from_ne_true (f q) (λ d. omega (arith, rank_lt f q b d h, rank_mono f a q l))
+
+-- all selected between
+pub rank_full : (f : ℕ → Bool) (a b : ℕ) → a ≤ b → ((q : ℕ) → a ≤ q → q < b → f q ≡ true) → rank f b + a ≡ rank f a + b
+rank_full f a b h =
+    le_ind (λ (m : ℕ). ((q : ℕ) → a ≤ q → q < m → f q ≡ true) → rank f m + a ≡ rank f a + m) (λ e. refl)
+    (λ m k ih e. omega (arith, rank_one f m (e m k (omega arith)), ih (λ q l g. e q l (omega arith)))) b h

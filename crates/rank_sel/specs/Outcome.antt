@@ -2,7 +2,7 @@
 use Rattle.std.specs.Prelude.{Bool, true, false, ◌||◌, List, [], ◌∷◌, ◌≡◌, ℕ, Result, Ok, Err}
 use Rattle.std.proofs.Math.Option.{Option, none, some}
 use Rattle.rank_sel.specs.declared.Refusal.{Refusal}
-use Rattle.rank_sel.specs.declared.Refusal.TheVariants.{LenTooLarge, TooFewWords, OnesPerInventoryTooLarge, WordsPerSubinventoryTooLarge, OverheadNotPositive, InventoryTooShort, SpillTooShort, RankTooLarge, SummaryUnlawful, CellsUnlawful, RanksFall, ListFalls, TooFewPlaces, OriginTooLarge, ImageUnlawful, PlaceTooShort}
+use Rattle.rank_sel.specs.declared.Refusal.TheVariants.{LenTooLarge, TooFewWords, OnesPerInventoryTooLarge, WordsPerSubinventoryTooLarge, OverheadNotPositive, InventoryTooShort, SpillTooShort, RankTooLarge, SummaryUnlawful, CellsUnlawful, RanksFall, ListFalls, TooFewPlaces, OriginTooLarge, ImageUnlawful, PlaceTooShort, SampleOutside}
 
 pub data Outcome (A : Type 0) : Type 0 where
   answer : A → Outcome A
@@ -26,6 +26,7 @@ number_of TooFewPlaces = 13
 number_of OriginTooLarge = 14
 number_of ImageUnlawful = 15
 number_of PlaceTooShort = 16
+number_of SampleOutside = 17
 
 -- what a call said, as an Outcome
 abbrev pub outcome : {A : Type 0} → Result A Refusal → Outcome A

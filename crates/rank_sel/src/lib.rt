@@ -25,10 +25,11 @@ pub enum Refusal {
     OriginTooLarge = 14,
     ImageUnlawful = 15,
     PlaceTooShort = 16,
+    SampleOutside = 17,
 }
 
 // The rows, in their order.
-pub const REFUSAL_COUNT: usize = 16;
+pub const REFUSAL_COUNT: usize = 17;
 
 pub const REFUSALS: [Refusal; REFUSAL_COUNT] = [
     Refusal::LenTooLarge,
@@ -47,6 +48,7 @@ pub const REFUSALS: [Refusal; REFUSAL_COUNT] = [
     Refusal::OriginTooLarge,
     Refusal::ImageUnlawful,
     Refusal::PlaceTooShort,
+    Refusal::SampleOutside,
 ];
 
 impl Refusal {

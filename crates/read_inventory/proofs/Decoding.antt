@@ -11,7 +11,7 @@ use borrow.Author.Tests.{le-leb, lt-leb}
 use Rattle.rank_sel.specs.Outcome.{Outcome, answer, refused, and_then}
 use Rattle.rank_sel.proofs.Outcome.{answer_is, not_refused, refused_holds, then_answer, then_refused, then_then}
 use Rattle.spacing.specs.Spacing.{L, M, S}
-use Rattle.inventory.specs.Index.{stride, inventory_len_of}
+use Rattle.inventory.specs.Index.{entries_of, stride, inventory_len_of}
 use Rattle.inventory.specs.Lanes.{lane_of}
 use Rattle.inventory.specs.Shape.{shape_of}
 use Rattle.inventory.specs.declared.shape.Shape.{Shape}
@@ -22,22 +22,24 @@ use Rattle.inventory.proofs.Ranks.{rank_entry}
 use Rattle.inventory.proofs.Shapes.{shaped}
 use Rattle.read_inventory.specs.Read.{tagged, kind_at, span_at, quantum_at, shape_at, Place, place_at, number_at, span_too_small, mark_at, entry_of_rank, mark_number, residual, mark_of_rank}
 use Rattle.read_inventory.specs.Steps.{head_of, EntryLent, is_over, number_of_mark, spacing_at, decoded_by, decode_of, mark_by}
-use Rattle.read_inventory.specs.Tests.{Readable}
+use Rattle.read_inventory.specs.Tests.{Legible, Readable}
 use Rattle.read_inventory.specs.declared.decode.Decoded.{Decoded}
 use Rattle.read_inventory.specs.declared.decode.Head.{Head}
 use Rattle.read_inventory.specs.declared.decode.Number.{Number}
 use Rattle.read_inventory.specs.declared.decode.Spot.TheVariants.{Own}
 use Rattle.read_inventory.proofs.Reading.{tagged_16, spot_own, head_read, kind_as, spacing_16, Spotted, own_in, number_own}
 
--- ---- the entry of a rank below N
-pub entry_lent : (t : Summary) (inv sp : List ℕ) (r : ℕ) → Readable t inv sp r → EntryLent t inv (entry_of_rank t r)
+-- ---- an entry's cells are lent
+pub entry_held : (t : Summary) (inv sp : List ℕ) (e : ℕ) → Legible t inv sp → e < entries_of t.plan → EntryLent t inv e
 unfolding inventory_len_of
-entry_lent t inv sp r a = record {
-  small_m = a.legible.lawful.small_m;
-  within =
-      let l = mul-le-mul_right (stride t.plan) (rank_entry t.plan r a.below) in
-      omega (arith, l, a.legible.lawful.counted, a.legible.held.own);
+entry_held t inv sp e a l = record {
+  small_m = a.lawful.small_m;
+  within = omega (arith, mul-le-mul_right (stride t.plan) l, a.lawful.counted, a.held.own);
 }
+
+-- and so are those of the entry of a rank below N
+pub entry_lent : (t : Summary) (inv sp : List ℕ) (r : ℕ) → Readable t inv sp r → EntryLent t inv (entry_of_rank t r)
+entry_lent t inv sp r a = entry_held t inv sp (entry_of_rank t r) a.legible (rank_entry t.plan r a.below)
 
 refused_is : {m n : ℕ} → ◌≡◌ {A = Outcome ℕ} (refused m) (refused n) → m ≡ n
 refused_is e = cc

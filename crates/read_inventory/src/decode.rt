@@ -5,7 +5,7 @@ ghost use Rattle.spacing.specs.Spacing.{N, max_log2_words};
 ghost use Rattle.inventory.specs.Index.{stride};
 ghost use Rattle.inventory.specs.Lanes.{lane_of};
 ghost use Rattle.inventory.specs.Shape.{Shaped};
-ghost use Rattle.read_inventory.specs.Read.{mark_of_rank, span_at, start_by, tagged};
+ghost use Rattle.read_inventory.specs.Read.{mark_of_rank, span_at, start_at, start_by, tagged};
 ghost use Rattle.read_inventory.specs.Steps.{EntryLent, HeadIn, SpotFor, decode_of, head_of, mark_by, number_of_mark, spacing_at};
 
 use crate::index::Cells;
@@ -231,6 +231,15 @@ impl<'a> Cells<'a> {
             start,
         };
         OpenEntry { cells: self, head }
+    }
+
+    // Where an entry starts, by its first cell alone.
+    #[inline(always)]
+    pub fn start_at(&self, entry: u64) -> u64
+        requires { EntryLent self.now.summary self.now.inventory.now entry }
+        ensures { result ≡ start_at self.now.summary self.now.inventory.now entry }
+    {
+        self.open(entry).head.start
     }
 
     pub(crate) fn decode(self, rank: u64) -> Result<Decoded, Refusal>

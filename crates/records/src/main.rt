@@ -1,13 +1,14 @@
-// Runs document 01's "Records to try", its examples of refusals and document 02's lists and origins through the library; what it
-// writes is held to stdout.
+// Runs document 01's "Records to try", its examples of refusals and document 02's lists, origins and steps through the library;
+// what it writes is held to stdout.
 #![tactic(auto)]
 
 ghost use Rattle.std.specs.Prelude.{◌≡◌, length};
 ghost use Rattle.std.specs.Result.{ForOk};
 
 use edge_index::{
-    Choice, Hint, Parameters, Polarity, Refusal, Sizes, Summary, build, check, count, dwell, hint,
-    plan, select, select_in_word, select_list, size, subinventory,
+    Choice, Hint, Parameters, Polarity, Refusal, Sizes, Summary, Walker, build, check, count,
+    dwell, hint, next, plan, previous, rank, select, select_in_word, select_list, size,
+    subinventory,
 };
 use std::io;
 
@@ -928,6 +929,151 @@ fn checks_from_origins(rt: &impl Print) -> io::Result<()> {
     check_a_from(rt, u64::MAX, ones_from(u64::MAX), &cells)
 }
 
+// The ranks of samples of A, by a summary and cells handed in.
+fn show_ranks(
+    rt: &impl Print,
+    name: &str,
+    summary: Summary,
+    cells: &[u64],
+    samples: &[u64],
+) -> io::Result<()> {
+    let a = [0x252u64];
+    let none = [0u64; 0];
+    for sample in samples {
+        print!(rt; "rank {name}, at {sample}: ")?;
+        show(rt, rank(&a, summary, cells, &none, *sample))?;
+    }
+    Ok(())
+}
+
+// A's ones, power 1, 0, from sample 100 on, by cells handed in.
+fn rank_ones(rt: &impl Print, name: &str, cells: &[u64], samples: &[u64]) -> io::Result<()> {
+    show_ranks(rt, name, ones_from(100), cells, samples)
+}
+
+// A's zeros, power 1, 0, from sample 100 on.
+fn zeros_from_100() -> Summary {
+    changed(
+        summary_of(Polarity::Zeros, 10, 6, 1, 0, 7, 0),
+        |s| s.origin = 100,
+    )
+}
+
+fn ranks_of_a(rt: &impl Print) -> io::Result<()> {
+    let cells = [1u64, 0x30000, 6, 0x30000, 10];
+    let samples = [100u64, 101, 102, 104, 105, 109, 110, 99, 111];
+    rank_ones(rt, "A", &cells, &samples)?;
+    let zero_cells = [0u64, 0x20000, 3, 0x20000, 7, 0x10000, 10];
+    let zero_samples = [100u64, 101, 103, 104, 107, 110, 99, 111];
+    show_ranks(rt, "A zeros", zeros_from_100(), &zero_cells, &zero_samples)
+}
+
+// Here the walk from a start is the definition; the last cell is no start.
+fn ranks_on_foreign_cells(rt: &impl Print) -> io::Result<()> {
+    rank_ones(
+        rt,
+        "A, cells 0 0 1 0 10",
+        &[0u64, 0, 1, 0, 10],
+        &[100u64, 101, 102, 110],
+    )?;
+    rank_ones(rt, "A, cells 4 0 6 0 10", &[4u64, 0, 6, 0, 10], &[102u64])?;
+    rank_ones(
+        rt,
+        "A, last cell 0",
+        &[1u64, 0x30000, 6, 0x30000, 0],
+        &[110u64],
+    )?;
+    rank_ones(rt, "A, starts 1 1", &[1u64, 0, 1, 0, 10], &[100u64])?;
+    rank_ones(rt, "A, starts 6 1", &[6u64, 0, 1, 0, 10], &[100u64, 99])?;
+    rank_ones(rt, "A, starts 1 10", &[1u64, 0, 10, 0, 10], &[100u64])?;
+    let far = [1u64, 0, 0x4000_0000_0000_0001, 0, 10];
+    rank_ones(rt, "A, starts 1 2^62 + 1", &far, &[100u64])
+}
+
+fn show_edge(rt: &impl Print, told: Result<Option<u64>, Refusal>) -> io::Result<()> {
+    end(rt, told, |edge| match edge {
+        Some(sample) => println!(rt; "{sample}"),
+        None => println!(rt; "none"),
+    })
+}
+
+fn show_neighbours(
+    rt: &impl Print,
+    name: &str,
+    summary: Summary,
+    samples: &[u64],
+) -> io::Result<()> {
+    let a = [0x252u64];
+    for sample in samples {
+        print!(rt; "next {name}, at {sample}: ")?;
+        show_edge(rt, next(&a, summary, *sample))?;
+        print!(rt; "  previous ")?;
+        show_edge(rt, previous(&a, summary, *sample))?;
+    }
+    Ok(())
+}
+
+fn neighbours_of_a(rt: &impl Print) -> io::Result<()> {
+    show_neighbours(rt, "A", ones_from(100), &[101u64, 102, 110, 99, 111])?;
+    show_neighbours(rt, "A zeros", zeros_from_100(), &[100u64, 101, 108, 109])
+}
+
+// Turns, each of the walker that the one before hands back.
+fn show_turns(rt: &impl Print, name: &str, walker: Walker<'_>, turns: u64) -> io::Result<()> {
+    let mut walker = walker;
+    for _ in 0..turns {
+        print!(rt; "turn {name}, at {}: ", walker.place)?;
+        let turn = walker.turn();
+        walker = turn.walker;
+        show_edge(rt, turn.edge)?;
+        println!(rt; "  then at {}", walker.place)?;
+    }
+    Ok(())
+}
+
+fn show_walk(
+    rt: &impl Print,
+    name: &str,
+    word: u64,
+    summary: Summary,
+    sample: u64,
+    turns: u64,
+) -> io::Result<()> {
+    let words = [word];
+    print!(rt; "open {name}, at {sample}: ")?;
+    end(rt, Walker::open(&words, summary, sample), |walker| {
+        println!(rt; "place {}", walker.place)?;
+        show_turns(rt, name, walker, turns)
+    })
+}
+
+// The last is a walker that no call gave.
+fn walkers(rt: &impl Print) -> io::Result<()> {
+    show_walk(rt, "A", 0x252, ones_from(100), 105, 4)?;
+    show_walk(rt, "A zeros", 0x252, zeros_from_100(), 107, 3)?;
+    show_walk(rt, "word 2", 2, ones_from(100), 104, 2)?;
+    show_walk(rt, "A", 0x252, ones_from(100), 99, 1)?;
+    show_walk(rt, "A", 0x252, ones_from(100), 111, 1)?;
+    let a = [0x252u64];
+    let outside = Walker {
+        words: &a,
+        len: 10,
+        polarity: Polarity::Ones,
+        origin: 100,
+        place: 99,
+    };
+    show_turns(rt, "A", outside, 1)
+}
+
+// 7 and 9 come before 17.
+fn steps_by_wrong_summaries(rt: &impl Print) -> io::Result<()> {
+    let cells = [1u64, 0x30000, 6, 0x30000, 10];
+    let spilled = changed(ones_from(100), |s| s.spill_len = 1);
+    show_ranks(rt, "A, spill count 1", spilled, &cells, &[99u64])?;
+    let many = changed(ones_from(100), |s| s.plan.num = 11);
+    show_neighbours(rt, "A, N 11", many, &[99u64])
+}
+
 fn counts_and_plans(rt: &impl Print) -> io::Result<()> {
     counts(rt)?;
     in_words(rt)?;
@@ -967,11 +1113,20 @@ fn origins(rt: &impl Print) -> io::Result<()> {
     checks_from_origins(rt)
 }
 
+fn steps(rt: &impl Print) -> io::Result<()> {
+    ranks_of_a(rt)?;
+    ranks_on_foreign_cells(rt)?;
+    neighbours_of_a(rt)?;
+    walkers(rt)?;
+    steps_by_wrong_summaries(rt)
+}
+
 fn main(rt: HostRuntime) -> io::Result<()> {
     counts_and_plans(&rt)?;
     indexes(&rt)?;
     damage(&rt)?;
     checks(&rt)?;
     lists(&rt)?;
-    origins(&rt)
+    origins(&rt)?;
+    steps(&rt)
 }

@@ -1,15 +1,16 @@
--- The lowest one of a word: below it stand the trailing zeros. The next one above a place is the lowest of what lies above it.
+-- The lowest one of a word: below it stand the trailing zeros. The next one above a place is the lowest of what lies above it. The
+-- highest one is the power of two that the word reaches.
 use mathlib.Core.Bool.{true, false}
 use mathlib.Core.Logic.{⊎_elim}
 use mathlib.Core.Path.{◌≡◌, sym, ap, ◌∙◌}
 use Prim.Native.Nat.{ℕ, zero, suc, ◌+◌, ◌-◌, ◌/◌, ◌%◌, ◌^◌, ◌≤◌, ◌<◌}
-use native.Mathlib.Nat.{pow-suc}
+use native.Mathlib.Nat.{pow-suc, div-eq_of_lt-le}
 use native.Mathlib.Omega.{arith}
 use lib.Count.{count_trailing_zeros}
 use Rattle.rank_sel.specs.Rank.{rank}
 use Rattle.rank_sel.specs.Seek.{Sought}
 use Rattle.std.proofs.lemmas.Bool.{cases_lt}
-use Rattle.rank_sel.proofs.Rank.{rank-zero, rank_one, rank_same, rank_add, rank_ext}
+use Rattle.rank_sel.proofs.Rank.{rank-zero, rank_one, rank_same, rank_add, rank_ext, rank_still}
 use Rattle.select_in_word.specs.Bit.{bit}
 use Rattle.select_in_word.specs.Select.{OneAbove, ones_above}
 use Rattle.select_in_word.proofs.Bit.{two_cases, bit-zero, bit-suc, bit_past}
@@ -56,4 +57,15 @@ next_above w p t h l s =
           (cases_lt (p + 1 + t) 64);
       here = here;
       above = omega (arith, r, rank_one (bit w) (p + 1 + t) here);
+    }
+
+-- above the highest one stands none
+pub top_above : (w k : ℕ) → k < 64 → 2 ^ k ≤ w → w < 2 ^ suc k → OneAbove w 0 k
+unfolding bit
+top_above w k l a b =
+    let one : w / 2 ^ k ≡ 1 = div-eq_of_lt-le {k = 1} (2 ^ k) {m = w} (omega arith) (omega (arith, pow-suc 2 k)) in
+    record {
+      low = l;
+      here = simp one;
+      above = omega (arith, rank_still (bit w) (suc k) 64 l (λ q g h. bit_past w (suc k) q b g));
     }

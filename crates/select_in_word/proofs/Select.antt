@@ -13,7 +13,7 @@ use Rattle.std.proofs.lemmas.Bool.{cases_lt}
 use Rattle.rank_sel.specs.Outcome.{answer, refused, or_refuse}
 use Rattle.rank_sel.specs.Rank.{rank}
 use Rattle.rank_sel.specs.Seek.{seek, Sought}
-use Rattle.rank_sel.proofs.Rank.{rank-zero, rank_one, rank_lt, rank_add, rank_ext, rank_flat}
+use Rattle.rank_sel.proofs.Rank.{rank-zero, rank_one, rank_lt, rank_add, rank_ext, rank_still}
 use Rattle.rank_sel.proofs.Seek.{seek_found, seek_none, seek_at, seek_empty, seek_some}
 use Rattle.select_in_word.specs.Bit.{bit}
 use Rattle.select_in_word.specs.Holds.{Holds}
@@ -49,7 +49,7 @@ rank_shr w s q =
 
 -- and none past its 64 bits
 rank_end : (w s : ℕ) → w < 2 ^ 64 → rank (bit w) (s + 64) ≡ rank (bit w) 64
-rank_end w s h = rank_flat (bit w) 64 (s + 64) (omega arith) (λ q g. bit_past w 64 q h g)
+rank_end w s h = rank_still (bit w) 64 (s + 64) (omega arith) (λ q g l. bit_past w 64 q h g)
 
 -- w shifted past place p, as the code shifts it
 module _ (w p : ℕ) where

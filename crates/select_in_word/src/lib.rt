@@ -193,11 +193,19 @@ fn one_above(word: u64, remaining: u64) -> u64
 }
 
 // The lowest one.
-fn first_one(word: u64) -> u64
+pub fn first_one(word: u64) -> u64
     requires { 0 < word }
     ensures { Sought (bit word) 64 0 0 result }
 {
     u64::trailing_zeros(word) as u64
+}
+
+// The highest one.
+pub fn last_one(word: u64) -> u64
+    requires { 0 < word }
+    ensures { OneAbove word 0 result }
+{
+    word.ilog2() as u64
 }
 
 // The next one above a place.

@@ -1,9 +1,10 @@
 //! Our library against the sux-rs Rust: one process, the same inputs, the default choice, both release builds without
 //! bmi2, best of several runs. Ratios are ours / Rust, so below 1 is faster; check's is to our own build. Images, which
-//! the Rust has not, against memcpy of the same bytes: medians.
+//! the Rust has not, against memcpy of the same bytes: medians. Steps, which it has not either, against count and a bare scan
+//! of words.
 
 use oracle::ffi::{self, Index, Record};
-use oracle::model::{Choice, Summary};
+use oracle::model::{Choice, Summary, Walker};
 use oracle::random::Random;
 use oracle::{cases, model, sources};
 use std::hint::black_box;
@@ -14,7 +15,7 @@ use sux::rank_sel::{SelectAdapt, SelectZeroAdapt};
 use sux::traits::BitVecOps;
 use sux::traits::rank_sel::{AddNumBits, Select, SelectZero};
 
-const USAGE: &str = "bench [--small] [--huge] [--list] [--image] [--u32] [--runs N] | \
+const USAGE: &str = "bench [--small] [--huge] [--list] [--image] [--u32] [--steps] [--runs N] | \
                      bench --ours build|check|random|rising|list|write|read LOG2 HALVINGS";
 const QUERIES: u64 = 1 << 20;
 /// Ranks in the lists of one run.
@@ -51,7 +52,7 @@ fn main() -> ExitCode {
         return ours(call, log2, halvings);
     }
     let (mut sizes, mut huge, mut runs) = (vec![20, 26, 30], false, 6);
-    let (mut list, mut image, mut u32s) = (false, false, false);
+    let (mut list, mut image, mut u32s, mut steps) = (false, false, false, false);
     let mut args = args.into_iter();
     while let Some(arg) = args.next() {
         match (arg.as_str(), &mut args) {
@@ -60,6 +61,7 @@ fn main() -> ExitCode {
             ("--list", _) => list = true,
             ("--image", _) => image = true,
             ("--u32", _) => u32s = true,
+            ("--steps", _) => steps = true,
             ("--runs", rest) => match rest.next().and_then(|n| n.parse().ok()) {
                 Some(n) => runs = n,
                 None => return usage(),
@@ -69,7 +71,7 @@ fn main() -> ExitCode {
     }
     sources::announce();
     // All tables, or those named.
-    let all = !list && !image && !u32s;
+    let all = !list && !image && !u32s && !steps;
     if all || list {
         legend(runs);
     }
@@ -84,6 +86,11 @@ fn main() -> ExitCode {
     }
     if all || u32s {
         wide_entries(runs);
+    }
+    if all || steps {
+        ranks(&sizes);
+        far_steps(&sizes, runs);
+        turns(runs);
     }
     ExitCode::SUCCESS
 }
@@ -356,6 +363,112 @@ fn wide_entries(runs: u32) {
         let percent = 100.0 / (1u64 << halvings) as f64;
         let span = l + halvings as u64;
         println!("| 2^{log2} | {percent:.3} % | {l}, {m} | 2^{span} | {} |", cells.join(" | "));
+    }
+}
+
+/// The rank of random samples, which reads every entry's start; a jump at random beside it.
+fn ranks(sizes: &[u32]) {
+    println!(
+        "\nRank of random samples, default choice, half of the bits selected; each call reads every entry's start.\n"
+    );
+    println!("| bits | entries | rank | for each entry | select, random |\n|---|---|---|---|---|");
+    for &log2 in sizes {
+        let random = Random::new(5);
+        let words = sparse(log2, 1, model::ONES, &random);
+        let record = Record { words: &words, len: 1 << log2, polarity: model::ONES };
+        let choice = cases::default();
+        let (mut inventory, mut spill) = lent(&record, &choice);
+        let summary = record.build(ORIGIN, &choice, &mut inventory, &mut spill).expect("a lawful record");
+        let index = Index { words: &words, summary: &summary, inventory: &inventory, spill: &spill };
+        let entries = summary.n.div_ceil(1 << summary.l);
+        let calls = 1 << 9;
+        let samples: Vec<u64> = (0..calls).map(|_| ORIGIN + random.below(summary.len + 1)).collect();
+        let ranks: Vec<u64> = (0..calls).map(|_| random.below(summary.n)).collect();
+        let (rank, _) = timed(|| samples.iter().map(|&sample| index.rank(sample).unwrap()).fold(0, u64::wrapping_add));
+        let (select, _) = timed(|| ranks.iter().map(|&rank| index.select(rank).unwrap()).fold(0, u64::wrapping_add));
+        let [rank, select] = [rank, select].map(|seconds| seconds * 1e9 / calls as f64);
+        println!("| 2^{log2} | {entries} | {:.1} µs | {:.1} ns | {select:.0} ns |", rank / 1e3, rank / entries as f64);
+    }
+}
+
+/// Next and previous over a record with one bit selected, at its far end, against count of the same words.
+fn far_steps(sizes: &[u32], runs: u32) {
+    println!("\nOver a far gap: best of {runs} runs. Each cell: ratio (ours / count of the same words).\n");
+    println!("| bits | polarity | next | previous |\n|---|---|---|---|");
+    for (&log2, polarity) in sizes.iter().flat_map(|log2| [(log2, model::ONES), (log2, model::ZEROS)]) {
+        let len = 1u64 << log2;
+        let summary =
+            Summary { len, polarity: polarity as u64, n: 1, origin: ORIGIN, inventory: 3, ..Summary::from([0; 9]) };
+        let cells = [len - 1, 0].map(|edge| {
+            let words = cases::record(&[edge], len, polarity, 0, || 0);
+            let record = Record { words: &words, len, polarity };
+            let mut best = (f64::INFINITY, f64::INFINITY);
+            for run in 0..if log2 <= 20 { 8 * runs } else { runs } {
+                let step = || match edge {
+                    0 => ffi::previous(&words, &summary, ORIGIN + len),
+                    _ => ffi::next(&words, &summary, ORIGIN),
+                };
+                let (found, count) = both(&mut best, run % 2 == 1, step, || record.count());
+                assert_eq!((found, count), (Ok(Some(ORIGIN + edge)), Ok(1)));
+            }
+            format!("{:.2} ({})", best.0 / best.1, pair(best, None))
+        });
+        println!("| 2^{log2} | {} | {} |", ["ones", "zeros"][polarity as usize], cells.join(" | "));
+    }
+}
+
+/// The first one at or after a place, by a bare scan of words, as one writes it in C: a call for each edge, as a turn is.
+#[inline(never)]
+fn scan(words: &[u64], len: u64, place: u64, edge: &mut u64) -> bool {
+    if place >= len {
+        return false;
+    }
+    let mut i = (place / 64) as usize;
+    let mut word = words[i] & (u64::MAX << (place % 64));
+    while word == 0 {
+        i += 1;
+        if i == words.len() {
+            return false;
+        }
+        word = words[i];
+    }
+    *edge = 64 * i as u64 + word.trailing_zeros() as u64;
+    *edge < len
+}
+
+/// All edges of a record of 2^20 bits by turns, and by the bare scan.
+fn turns(runs: u32) {
+    let runs = 8 * runs;
+    println!(
+        "\nAll edges of 2^20 bits: best of {runs} runs. The cell: ratio (ours / a bare scan, a call for each edge).\n"
+    );
+    println!("| selected | turn |\n|---|---|");
+    for halvings in [0, 1, 2, 4, 8] {
+        let words = sparse(20, halvings, model::ONES, &Random::new(5));
+        let len = 1u64 << 20;
+        let n = Record { words: &words, len, polarity: model::ONES }.count().unwrap();
+        let first = Walker { len, polarity: model::ONES as u64, origin: ORIGIN, place: ORIGIN };
+        let mut best = (f64::INFINITY, f64::INFINITY);
+        for run in 0..runs {
+            let ours = || {
+                let (mut walker, mut sum) = (first, 0u64);
+                while let Some(edge) = ffi::turn_on(&words, &mut walker).unwrap() {
+                    sum = sum.wrapping_add(edge - ORIGIN);
+                }
+                sum
+            };
+            let bare = || {
+                let (mut edge, mut place, mut sum) = (0, 0, 0u64);
+                while scan(black_box(&words), len, place, &mut edge) {
+                    (sum, place) = (sum.wrapping_add(edge), edge + 1);
+                }
+                sum
+            };
+            let (a, b) = both(&mut best, run % 2 == 1, ours, bare);
+            assert_eq!(a, b);
+        }
+        let percent = 100.0 / (1u64 << halvings) as f64;
+        println!("| {percent:.3} % | {:.2} ({}) |", best.0 / best.1, pair(best, Some(n)));
     }
 }
 

@@ -1,17 +1,17 @@
 -- Past the test the record's whole words are counted, and the bits of a last word beyond them; from len on the rank is N.
 use mathlib.Core.Path.{◌≡◌, sym, ap, ◌∙◌}
 use Prim.Native.Nat.{ℕ, ◌+◌, ◌*◌, ◌/◌}
+use native.Mathlib.Nat.{sub-zero}
 use native.Mathlib.Omega.{arith}
-use lib.ListN.{get_or}
-use Rattle.std.proofs.lemmas.List.{get_or-take, length-take-le}
+use Rattle.std.proofs.lemmas.List.{length-take-le}
 use Rattle.rank_sel.specs.Outcome.{answer, NoneOf}
 use Rattle.rank_sel.specs.Rank.{rank}
 use Rattle.rank_sel.proofs.Outcome.{passing, passed_none, tests_handed_on}
-use Rattle.rank_sel.proofs.Rank.{rank-zero}
+use Rattle.rank_sel.proofs.Rank.{rank-zero, rank_le}
 use Rattle.select_in_word.proofs.Holds.{holds_ones}
-use Rattle.bit_record.specs.Record.{selected, num_selected, of_record, count_of, Admitted, CountsWords}
+use Rattle.bit_record.specs.Record.{selected, num_selected, of_record, count_of, Admitted}
 use Rattle.bit_record.proofs.Counted.{admitted, from_zero}
-use Rattle.bit_record.proofs.Selected.{rank_num, words_most, words_part}
+use Rattle.bit_record.proofs.Selected.{count_between, rank_num}
 use Rattle.bit_record.proofs.count.Goals.{After-count_words-total, In_ok-test_record}
 use Rattle.bit_record.proofs.count.Goals as goal
 
@@ -30,21 +30,16 @@ module _ (c : In_ok-test_record) where
 
 -- the whole words are counted
 module _ (c : After-count_words-total) where
-  counts : CountsWords c.args.polarity c.args.words.now 0 (c.args.len / 64) c.count_words-total.result
-  counts =
-      let a = c.args in
-      let h = held (goal.at.After-count_words-total c).In_ok-test_record in
-      words_part a.polarity a.words.now _ 0 (a.len / 64) _ (length-take-le (a.len / 64) a.words.now (omega (arith, h.held)))
-      (λ q l. get_or-take (a.len / 64) a.words.now q 0 l ∙ ap (λ (j : ℕ). get_or a.words.now j 0) (omega arith)) c.count_words-total.ensures
-
-  whole : c.count_words-total.result ≡ rank (selected c.args.polarity c.args.words.now c.args.len)
-      (64 * (c.args.len / 64))
+  whole : c.count_words-total.result ≡ rank (selected c.args.polarity c.args.words.now c.args.len) (64 * (c.args.len / 64))
   whole =
       let a = c.args in
-      let f = selected a.polarity a.words.now a.len in
-      let z : rank f (64 * 0) ≡ 0 = rank-zero f in
-      let e : rank f (64 * (0 + a.len / 64)) ≡ rank f (64 * (a.len / 64)) = ap (rank f) (omega arith) in
-      omega (arith, counts.exact a.len (omega arith))
+      let h = held (goal.at.After-count_words-total c).In_ok-test_record in
+      omega (
+        arith,
+        count_between a.polarity a.words.now a.len 0 (a.len / 64) c.count_words-total.result (omega arith) (omega arith) h.held
+            (rw sub-zero c.count_words-total.ensures),
+        rank-zero (selected a.polarity a.words.now a.len),
+      )
 
 pub returns-in_err-test_record : goal.returns-in_err-test_record
 unfolding count_of
@@ -81,7 +76,8 @@ overflow_add-result c =
       arith,
       (held (goal.at.overflow_add-result c).In_ok-test_record).short,
       c.count_ones.ensures.most,
-      words_most a.polarity a.words.now 0 (a.len / 64) c.count_words-total.result (counts (goal.at.overflow_add-result c).After-count_words-total),
+      whole (goal.at.overflow_add-result c).After-count_words-total,
+      rank_le (selected a.polarity a.words.now a.len) (64 * (a.len / 64)),
     )
 
 pub returns : goal.returns

@@ -1,0 +1,21 @@
+-- A summary with a polarity over 1 is turned down; else the entry's answer for the summary as read goes out by `give`.
+use mathlib.Core.Path.{refl, ap, ◌∙◌}
+use Rattle.inventory.specs.declared.summary.Summary.{Summary}
+use Rattle.rank_inventory.specs.Rank.{rank_of}
+use Rattle.edge_index_c.specs.Calls.{rank_c}
+use Rattle.edge_index_c.proofs.Returns.{returned_as}
+use Rattle.edge_index_c.proofs.edge_index_rank.Goals as goal
+
+pub returns-in_default : goal.returns-in_default
+unfolding rank_c
+returns-in_default c =
+    rw (c.in_default.ensures) (record { status = refl; out = refl })
+
+pub returns : goal.returns
+unfolding rank_c
+returns c =
+    let a = c.args in
+    rw (c.in-Some.ensures.0)
+    (returned_as
+    (c.rank.ensures ∙ ap (λ (t : Summary). rank_of a.words.now t a.inventory.now a.spill.now a.sample) c.in-Some.ensures.1)
+    c.give.ensures)

@@ -1,0 +1,51 @@
+-- What steps and walks are held to: the first edge from a sample on, the last before it, and the turns that list them. Statements;
+-- the proofs are in proofs/Walk.antt. Document 02, W-206.
+use Rattle.std.specs.Prelude as std
+use Rattle.std.specs.Prelude.{true, List, [], ◌∷◌, ◌↔◌, ◌≡◌, ℕ, ◌-◌, ◌≤◌, ◌<◌, length, get_or}
+use Rattle.rank_sel.specs.Outcome.{Outcome, answer}
+use Rattle.bit_record.specs.Record.{selected, sample_at}
+use Rattle.bit_record.specs.declared.Polarity.{Polarity}
+use Rattle.step_knob.specs.Step.{turn_of, place_after}
+
+module _ (ws : List ℕ) (len : ℕ) (pol : Polarity) (origin : ℕ) where
+  -- an edge: the sample number of a selected position
+  pub record Edge (e : ℕ) : Type 0 where
+    pub from : origin ≤ e
+    pub to : e < sample_at origin len
+    pub here : selected pol ws len (e - origin) ≡ true
+
+  -- the facts that describe the first edge from sample x on, and the last before it
+  pub record FirstEdge (x e : ℕ) : Type 0 where
+    pub edge : Edge e
+    pub low : x ≤ e
+    pub before : (y : ℕ) → x ≤ y → y < e → Edge y → ⊥
+
+  pub record LastEdge (x e : ℕ) : Type 0 where
+    pub edge : Edge e
+    pub low : e < x
+    pub after : (y : ℕ) → e < y → y < x → Edge y → ⊥
+
+  -- the answer is exactly that edge, and none exactly where there is none
+  pub record FirstExact (x : ℕ) (o : Outcome (std.Option ℕ)) : Type 0 where
+    pub found : (e : ℕ) → (o ≡ answer (std.Some e)) ↔ FirstEdge x e
+    pub missing : (o ≡ answer std.None) ↔ ((e : ℕ) → x ≤ e → Edge e → ⊥)
+
+  pub record LastExact (x : ℕ) (o : Outcome (std.Option ℕ)) : Type 0 where
+    pub found : (e : ℕ) → (o ≡ answer (std.Some e)) ↔ LastEdge x e
+    pub missing : (o ≡ answer std.None) ↔ ((e : ℕ) → e < x → Edge e → ⊥)
+
+  -- turns from sample x on, from place to place, give these edges, and then none
+  abbrev pub Walks : ℕ → List ℕ → Type 0
+  Walks x [] = turn_of ws len pol origin x ≡ answer std.None
+  Walks x (e ∷ es) = (turn_of ws len pol origin x ≡ answer (std.Some e)) × Walks (place_after (turn_of ws len pol origin x) x) es
+
+  -- the edges from sample x on, each once, rising
+  pub record ListsEdges (x : ℕ) (es : List ℕ) : Type 0 where
+    pub rising : (i j : ℕ) → i < j → j < length es → get_or es i 0 < get_or es j 0
+    pub edges : (i : ℕ) → i < length es → (x ≤ get_or es i 0) × Edge (get_or es i 0)
+    pub all : (e : ℕ) → x ≤ e → Edge e → (i : ℕ) × (i < length es) × (get_or es i 0 ≡ e)
+
+  -- there is such a walk, and every one lists exactly these
+  pub record WalkExact (x : ℕ) : Type 0 where
+    pub ends : (es : List ℕ) × Walks x es
+    pub lists : (es : List ℕ) → Walks x es → ListsEdges x es

@@ -1,0 +1,73 @@
+// The walker.
+ghost use Rattle.std.specs.Prelude.{◌≡◌};
+ghost use Rattle.rank_sel.specs.Outcome.{outcome};
+ghost use Rattle.step_knob.specs.Step.{open_of, turn_of, walker_after};
+
+use crate::step::{edge_at, test_step};
+use bit_record::{Polarity, Record, position_at, test_record};
+use inventory::Summary;
+use rank_sel::Refusal;
+
+// A walker over a record's words, which goes from edge to edge. Anyone may make one: each turn tests it.
+#[derive(Clone, Copy)]
+pub struct Walker<'a> {
+    pub words: &'a [u64],
+    pub len: u64,
+    pub polarity: Polarity,
+    pub origin: u64,
+    pub place: u64,
+}
+
+// What a turn gives: an edge, none, or a refusal; and the walker handed back.
+#[derive(Clone, Copy)]
+pub struct Turn<'a> {
+    pub edge: Result<Option<u64>, Refusal>,
+    pub walker: Walker<'a>,
+}
+
+impl<'a> Walker<'a> {
+    // A walker whose place is a sample.
+    pub fn open(words: &'a [u64], summary: Summary, sample: u64) -> Result<Walker<'a>, Refusal>
+        ensures { outcome result ≡ open_of words.entry summary sample }
+    {
+        test_step(words, summary, sample)?;
+        Ok(Walker {
+            words,
+            len: summary.plan.len,
+            polarity: summary.plan.polarity,
+            origin: summary.origin,
+            place: sample,
+        })
+    }
+
+    // The first edge at or after its place.
+    #[inline(always)]
+    fn edge(&self) -> Result<Option<u64>, Refusal>
+        ensures { outcome result ≡ turn_of self.now.words.now self.now.len self.now.polarity self.now.origin self.now.place }
+    {
+        test_record(self.words, self.len, self.origin)?;
+        let position = position_at(self.origin, self.len, self.place)?;
+        let record = Record {
+            words: self.words,
+            len: self.len,
+            polarity: self.polarity,
+        };
+        Ok(edge_at(self.origin, record.next_from(position)))
+    }
+
+    // A turn: the edge, and the walker one past it. With none left, and on a refusal, it is the walker handed in.
+    pub fn turn(self) -> Turn<'a>
+        ensures edge { outcome result.edge ≡ turn_of self.entry.words.now self.entry.len self.entry.polarity self.entry.origin self.entry.place }
+        ensures walker { result.walker ≡ walker_after self.entry }
+    {
+        let edge = self.edge();
+        let place = match edge {
+            Ok(Some(edge)) => edge + 1,
+            _ => self.place,
+        };
+        Turn {
+            edge,
+            walker: Walker { place, ..self },
+        }
+    }
+}
