@@ -130,7 +130,7 @@ module _ (ws : List ℕ) (len : ℕ) (pol : Polarity) (origin : ℕ) where
   abbrev Free : ℕ → Type 0
   Free x = NoneOf (of_turn ws len origin x)
 
-  pub free : AdmittedFrom ws len origin → (x : ℕ) → origin ≤ x → x ≤ sample_at origin len → Free x
+  free : AdmittedFrom ws len origin → (x : ℕ) → origin ≤ x → x ≤ sample_at origin len → Free x
   free a x l h =
       none_join (of_record_from ws len origin) (of_sample origin len x) (admitted_from_none ws len origin a)
       (simp (le-ltb x origin l, le-ltb (origin + len) x h), tt)
