@@ -18,18 +18,18 @@
  *    1  len over 2^62 - 1
  *    2  fewer than ceil(len / 64) words
  *    3  L over 63
- *    4  given M or maximum of M over 53
+ *    4  given M or maximum of M over 10
  *    5  percentage not finite or not above 0
  *    6  inventory shorter than its count; in size, that count over 2^64 - 1
  *    7  spill shorter than its count
  *    8  rank not below N (or the word's ones)
- *    9  summary: N > len, L > 63, M > 53, S or inventory count not by the rules
+ *    9  summary: N > len, L > 63, M > 10, S or inventory count not by the rules
  *   10  cells that no index has at this rank
  *   11  dwell with a > b
  *   12  a list in which a rank is below the one before it
  *   13  a list with fewer places than ranks
  *   14  origin plus len over 2^62 - 1, as whole numbers
- *   15  bytes that are no image: a header or a byte length against the rules
+ *   15  bytes that are no image: a header or a byte length against the rules, as an older image's M over 10
  *   16  a place shorter than the image
  *   17  a sample below the origin, or above origin plus len; the end itself is taken
  */

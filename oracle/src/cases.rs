@@ -1,8 +1,8 @@
 //! Choices and records to try.
 
-use crate::model::{Choice, DEFAULT, FIXED, OVERHEAD, POWER, SPAN, ZEROS};
+use crate::model::{Choice, DEFAULT, FIXED, MAX_LOG2_WORDS, OVERHEAD, POWER, SPAN, ZEROS};
 use crate::random::Random;
-use crate::reference::PAIRS;
+use crate::reference::{self, PAIRS};
 
 pub const fn default() -> Choice {
     Choice { kind: DEFAULT, value: 0, percentage: 0.0, log2: 0 }
@@ -24,17 +24,21 @@ pub const fn fixed(value: u64, log2: u32) -> Choice {
     Choice { kind: FIXED, value, percentage: 0.0, log2 }
 }
 
+/// The least that is over the limit of M, and over the Rust's own.
+pub const OVER: u32 = MAX_LOG2_WORDS + 1;
+const THEIR_OVER: u32 = reference::MAX_LOG2_WORDS + 1;
+
 /// Choices for the smallest records: every kind, small values and the outermost.
 pub fn small_choices() -> Vec<Choice> {
     let mut all = vec![default()];
     for value in [0, 1, 2, 3, 5, 7, 10, 20, 64, 1000, u64::MAX] {
-        all.extend([0, 1, 3, 53].map(|log2| span(value, log2)));
+        all.extend([0, 1, 3, MAX_LOG2_WORDS].map(|log2| span(value, log2)));
     }
     for value in [0, 1, 2, 3, 4, 5, 10, 63] {
-        all.extend([0, 1, 2, 53].map(|log2| power(value, log2)));
+        all.extend([0, 1, 2, MAX_LOG2_WORDS].map(|log2| power(value, log2)));
     }
     for percentage in [5e-324, 0.001, 1.0, 10.0, 100.0, 1e6, 1e300] {
-        all.extend([0, 3, 20, 51, 53].map(|log2| overhead(percentage, log2)));
+        all.extend([0, 3, 5, 9, MAX_LOG2_WORDS].map(|log2| overhead(percentage, log2)));
     }
     all.extend(PAIRS.iter().filter(|pair| pair.1 <= 3).map(|&(l, m)| fixed(l, m)));
     all
@@ -76,12 +80,13 @@ pub fn extreme_choices() -> Vec<Choice> {
             all.push(overhead(percentage, log2));
         }
     }
-    for log2 in [0, 1, 2, 3, 10, 51, 52, 53, 54, u32::MAX] {
+    for log2 in [0, 1, 2, 3, 9, MAX_LOG2_WORDS, OVER, THEIR_OVER - 1, THEIR_OVER, u32::MAX] {
         all.extend((0..=65).chain([1 << 32, (1 << 32) + 1, u64::MAX]).map(|value| power(value, log2)));
     }
     all.extend(PAIRS.iter().map(|&(l, m)| fixed(l, m)));
     all.extend(
-        [(64, 0), (64, 54), (0, 54), (63, 54), (u64::MAX, 0), (1 << 32, 3), (3, u32::MAX)].map(|(l, m)| fixed(l, m)),
+        [(64, 0), (64, OVER), (0, THEIR_OVER), (63, THEIR_OVER), (u64::MAX, 0), (1 << 32, 3), (3, u32::MAX)]
+            .map(|(l, m)| fixed(l, m)),
     );
     all
 }

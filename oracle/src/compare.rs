@@ -4,17 +4,14 @@
 use crate::cases::*;
 use crate::ffi;
 use crate::list::List;
-use crate::model::{self, BAD_CODE, Choice, FIXED, ONES, POWER, Summary, ZEROS};
+use crate::model::{self, BAD_CODE, Choice, FIXED, MAX_LOG2_WORDS, ONES, POWER, Summary, ZEROS};
 use crate::random::Random;
 use crate::reference::{self, Reference};
 use std::collections::BTreeMap;
 use std::panic::{AssertUnwindSafe, catch_unwind};
 use std::time::Instant;
 
-/// Above this many cells no index is built, in the Rust or here: parameters and counts alone are compared.
-const MOST_CELLS: u64 = 1 << 22;
 const GARBAGE: u64 = 0xDEAD_BEEF_0BAD_F00D;
-const OVERFLOW: &str = "overhead at maximum 52 or 53, where the Rust's m × 4096 overflows";
 
 #[derive(Clone, Copy)]
 pub struct Case<'a> {
@@ -126,11 +123,6 @@ impl Tally {
         self.equal(case, "size", ffi::Record { words, len, polarity }.size(&choice), size);
         match size {
             Err(refusal) => self.refused(case, refusal),
-            Ok((cells, _)) if cells > MOST_CELLS => {
-                self.planned(case, model::plan(words, len, polarity, &choice));
-                let what = "the Rust and our build, for an index of more than 2^22 cells";
-                self.skipped.add(what, case, &format!("{cells} cells"));
-            }
             Ok(_) => self.built(case),
         }
     }
@@ -167,7 +159,7 @@ impl Tally {
         self.equal(case, "buffers after a refused build", (inventory, spill), ([GARBAGE; 9], [GARBAGE; 5]));
     }
 
-    /// The Rust is to panic where we refuse.
+    /// The Rust is to panic where we refuse; up to its own limit of M it may build.
     fn refused(&mut self, case: &Case, refusal: u32) {
         self.refusals += 1;
         let &Case { words, len, polarity, choice } = case;
@@ -176,14 +168,16 @@ impl Tally {
         if refusal == BAD_CODE {
             return;
         }
-        if refusal == 6 {
-            self.known.add("refusal 6, where the Rust's count wraps and its allocation aborts (not run)", case, "");
-        } else if choice.kind == FIXED && (choice.value > 63 || choice.log2 > 53) {
+        let within = choice.log2 <= reference::MAX_LOG2_WORDS;
+        if choice.kind == FIXED && (choice.value > 63 || !within) {
             self.known.add(&format!("refusal {refusal}, where the Rust does not compile (fixed)"), case, "");
         } else {
             match catch_unwind(AssertUnwindSafe(|| reference::build(words, len, polarity, &choice).is_some())) {
                 Err(panic) => {
                     self.known.add(&format!("refusal {refusal}, where the Rust panics"), case, message(&panic))
+                }
+                Ok(true) if refusal == 4 && within => {
+                    self.known.add("refusal 4, where the Rust, whose limit is 53, builds an index", case, "")
                 }
                 Ok(true) => self.difference(case, format!("refusal {refusal}, but the Rust builds an index")),
                 Ok(false) => self.skipped.add("the Rust, for a fixed pair not compiled in", case, ""),
@@ -224,16 +218,9 @@ impl Tally {
         let theirs = match catch_unwind(AssertUnwindSafe(|| reference::build(words, len, polarity, &choice))) {
             Ok(Some(theirs)) => theirs,
             Ok(None) => return self.skipped.add("the Rust, for a fixed pair not compiled in", case, ""),
-            Err(panic) if model::overflows(&choice) => {
-                return self.known.add(OVERFLOW, case, message(&panic));
-            }
             Err(panic) => return self.difference(case, format!("the Rust panics: {}", message(&panic))),
         };
         let [n, l, m, s] = theirs.parameters();
-        if model::overflow_decides(&choice) && [n, l, m, s] != [summary.n, summary.l, summary.m, summary.s] {
-            let note = format!("L {} M {} S {} here, L {l} M {m} S {s} there", summary.l, summary.m, summary.s);
-            return self.known.add(OVERFLOW, case, &note);
-        }
         let ours = [summary.n, summary.l, summary.m, summary.s];
         self.equal(case, "N, L, M, S (Rust)", ours, [n, l, m, s]);
         self.equal(case, "inventory (Rust)", cells, as_u64(theirs.inventory()));
@@ -392,6 +379,7 @@ pub fn run(tally: &mut Tally, quick: bool) {
 
     spans(tally, &random, quick);
     cut_short(tally, &random, share);
+    large_m(tally, &random, quick);
 
     let started = Instant::now();
     for choice in extreme_choices() {
@@ -472,11 +460,40 @@ fn cut_short(tally: &mut Tally, random: &Random, share: usize) {
     tally.group("last entries cut short, U16 and U32", started);
 }
 
-/// Refusals 1, 2 and 6, and several conditions at once: the first in the order is said.
+/// Indexes whose M is up to the limit, and choices that give it as the maximum.
+fn large_m(tally: &mut Tally, random: &Random, quick: bool) {
+    let started = Instant::now();
+    for l in [8u64, 10, 12, 13] {
+        for m in if quick { MAX_LOG2_WORDS } else { 4 }..=MAX_LOG2_WORDS {
+            for first in [1 << l, 65_536, 65_537, 131_072, 1 << 20] {
+                let count = 1 << l;
+                let spans = [first, random.pick(&[count, 65_537, 200_000])];
+                let (positions, len) = exact_spans(random, count, &spans, 1 + random.below(count));
+                let span = span(1 << random.pick(&[12, 14, 17]), m);
+                for choice in [power(l, m), span, overhead(random.pick(&[1.0, 10.0]), m)] {
+                    for polarity in [ONES, ZEROS] {
+                        let words = record(&positions, len, polarity, 0, || random.next());
+                        tally.compare(&Case { words: &words, len, polarity, choice });
+                    }
+                }
+            }
+        }
+    }
+    tally.group("M 4 to the limit, U16 and U32", started);
+}
+
+/// Refusals 1 and 2, and several conditions at once: the first in the order is said.
 fn refused_records(tally: &mut Tally) {
     let words = [0x252, 0, 7];
-    let choices =
-        [default(), span(64, 54), power(64, 54), overhead(f64::NAN, 60), overhead(0.0, 3), fixed(64, 54), fixed(2, 54)];
+    let choices = [
+        default(),
+        span(64, OVER),
+        power(64, OVER),
+        overhead(f64::NAN, 60),
+        overhead(0.0, 3),
+        fixed(64, OVER),
+        fixed(0, OVER),
+    ];
     for choice in choices {
         for polarity in [ONES, ZEROS] {
             for len in [1 << 62, (1 << 62) + 1, u64::MAX, 1 << 63, (1 << 62) - 1, 65, 128, 129, 192, 193, 1 << 40] {
@@ -486,14 +503,9 @@ fn refused_records(tally: &mut Tally) {
             }
         }
     }
-    // 2047 entries of 2^53 + 1 cells are countable, 2048 are not.
-    for len in [2047, 2048, 4096] {
-        tally.compare(&Case { words: &[u64::MAX; 64], len, polarity: ONES, choice: fixed(0, 53) });
-        tally.compare(&Case { words: &[0; 64], len, polarity: ZEROS, choice: fixed(0, 53) });
-    }
     // Codes that are none.
     for (polarity, kind) in [(2, 0), (u32::MAX, 1), (0, 5), (1, u32::MAX), (7, 7)] {
-        let choice = Choice { kind, ..power(64, 54) };
+        let choice = Choice { kind, ..power(64, OVER) };
         tally.compare(&Case { words: &words, len: u64::MAX, polarity, choice });
         tally.compare(&Case { words: &words, len: 10, polarity, choice });
     }

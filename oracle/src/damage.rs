@@ -5,7 +5,7 @@ use crate::cases::*;
 use crate::compare::{Case, said};
 use crate::ffi;
 use crate::list::List;
-use crate::model::{self, Answer, Built, Choice, ONES, Summary};
+use crate::model::{self, Answer, Built, Choice, MAX_LOG2_WORDS, ONES, Summary};
 use crate::random::Random;
 use std::collections::BTreeMap;
 use std::fmt::{Debug, Display, Formatter};
@@ -223,7 +223,8 @@ pub fn foreign(random: &Random, input: &mut Input) {
 
 /// A number near one that matters.
 fn near(random: &Random, input: &Input) -> u64 {
-    let limits = [0, 1, 63, 64, 53, 54, 65_536, 65_537, 1 << 32, 1 << 62, 1 << 63, random.next()];
+    let limits =
+        [0, 1, 63, 64, MAX_LOG2_WORDS as u64, OVER as u64, 65_536, 65_537, 1 << 32, 1 << 62, 1 << 63, random.next()];
     let Summary { len, n, inventory, spill, .. } = input.summary;
     let centre =
         if random.one_in(2) { random.pick(&limits) } else { random.pick(&[input.len, len, n, inventory, spill]) };
@@ -231,7 +232,7 @@ fn near(random: &Random, input: &Input) -> u64 {
 }
 
 pub fn damage(random: &Random, input: &mut Input, other: &Input) {
-    let step = (1u64 << input.summary.m.min(10)) + 1;
+    let step = (1u64 << input.summary.m.min(MAX_LOG2_WORDS as u64)) + 1;
     let entry = (random.below(input.inventory.len() as u64 / step + 1) * step) as usize;
     let value = near(random, input);
     let any = |random: &Random, cells: &[u64]| random.below(cells.len() as u64) as usize;
@@ -327,16 +328,17 @@ pub fn damage(random: &Random, input: &mut Input, other: &Input) {
                 *word ^= random.pick(&[1 << (value % 64), u64::MAX, value]);
             }
         }
-        // Another choice, one past the limits, another polarity; a count of cells that wraps to one that fits.
+        // Another choice, one past the limits, another polarity; a summary by the rules but for its M.
         _ => match random.below(5) {
             0 => input.choice = other.choice,
             1 => input.choice = Choice { kind: input.choice.kind, ..unlawful(random, value) },
             2 => input.choice = unlawful(random, value),
             3 => input.polarity = random.pick(&[0, 1, 1 - input.polarity.min(1), 2]),
             _ => {
-                input.inventory.resize(2100, value);
-                let (n, m) = (2048, 53);
-                input.summary = Summary { n, l: 0, m, s: 0, inventory: 2049, ..input.summary };
+                let (n, m) = (random.below(2), OVER as u64);
+                let inventory = n * ((1 << m) + 1) + 1;
+                input.inventory.resize(inventory as usize, value);
+                input.summary = Summary { n, l: 0, m, s: 0, inventory, ..input.summary };
             }
         },
     }
@@ -345,15 +347,15 @@ pub fn damage(random: &Random, input: &mut Input, other: &Input) {
 /// A choice with one number or several at or past a limit.
 fn unlawful(random: &Random, value: u64) -> Choice {
     random.pick(&[
-        span(value, 54),
-        power(value, 53),
-        power(64, 54),
-        overhead(f64::NAN, 54),
+        span(value, OVER),
+        power(value, MAX_LOG2_WORDS),
+        power(64, OVER),
+        overhead(f64::NAN, OVER),
         overhead(0.0, 3),
-        overhead(f64::INFINITY, 53),
-        fixed(64, 54),
-        fixed(0, 53),
-        Choice { kind: 5, ..fixed(64, 54) },
+        overhead(f64::INFINITY, MAX_LOG2_WORDS),
+        fixed(64, OVER),
+        fixed(0, MAX_LOG2_WORDS),
+        Choice { kind: 5, ..fixed(64, OVER) },
     ])
 }
 
@@ -497,7 +499,7 @@ fn stale(random: &Random, input: &mut Input) {
 
 /// Two entries swapped, and one of them perhaps tagged U64, which for L 0 still leads to its start.
 fn bend_entries(random: &Random, input: &mut Input) {
-    let step = (1usize << input.summary.m.min(10)) + 1;
+    let step = (1usize << input.summary.m.min(MAX_LOG2_WORDS as u64)) + 1;
     let entries = (input.inventory.len() / step) as u64;
     if entries > 0 {
         let (i, j) = (random.below(entries) as usize * step, random.below(entries) as usize * step);

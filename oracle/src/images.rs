@@ -5,7 +5,7 @@
 use crate::cases::*;
 use crate::damage::{self, Input, Tally, first};
 use crate::ffi::{self, TOUCHED};
-use crate::model::{self, Answer, BAD_CODE, Built, ONES, Summary, ZEROS};
+use crate::model::{self, Answer, BAD_CODE, Built, MAX_LOG2_WORDS, ONES, Summary, ZEROS};
 use crate::random::Random;
 use std::fmt::{Display, Formatter};
 use std::time::Instant;
@@ -22,6 +22,9 @@ const INVENTORY: usize = 7;
 const INVENTORY_OFFSET: usize = 8;
 const SPILL: usize = 9;
 const SPILL_OFFSET: usize = 10;
+
+/// The largest M.
+const MOST_M: u64 = MAX_LOG2_WORDS as u64;
 
 /// The most cells of an image in the random run, which is to be quick.
 const MOST_CELLS: u64 = 1 << 12;
@@ -246,7 +249,8 @@ fn bases(random: &Random) -> Vec<Input> {
             all.push(damage::base(random, words, len, polarity, power(1, 0)));
         }
         all.push(damage::base(random, vec![0x252], 10, polarity, power(63, 3)));
-        let (none, words) = ([fixed(0, 53), fixed(63, 53)], record(&[], 5, polarity, 0, || random.next()));
+        let (none, words) =
+            ([fixed(0, MAX_LOG2_WORDS), fixed(63, MAX_LOG2_WORDS)], record(&[], 5, polarity, 0, || random.next()));
         all.extend(none.map(|choice| damage::base(random, words.clone(), 5, polarity, choice)));
     }
     all
@@ -340,7 +344,8 @@ fn lent_cells(random: &Random, count: u64) -> usize {
 
 /// Another number, near it or near a limit; 2^32 and 2^61 more show a field cut to 32 bits, and bytes that wrap.
 fn bent(random: &Random, number: u64) -> u64 {
-    let limits = [0, 1, 2, 53, 54, 63, 64, 88, 96, 1 << 32, 1 << 61, (1 << 62) - 1, 1 << 62, 1 << 63, u64::MAX];
+    let limits =
+        [0, 1, 2, MOST_M, MOST_M + 1, 63, 64, 88, 96, 1 << 32, 1 << 61, (1 << 62) - 1, 1 << 62, 1 << 63, u64::MAX];
     match random.below(10) {
         0 => number.wrapping_add(1),
         1 => number.wrapping_sub(1),
@@ -370,7 +375,7 @@ fn agreeing(random: &Random, image: &mut Image) {
     if i != S && follows() {
         fields[S] = fields[L].saturating_sub(fields[M].saturating_add(2));
     }
-    if i != INVENTORY && follows() && fields[L] < 64 && fields[M] < 54 {
+    if i != INVENTORY && follows() && fields[L] < 64 && fields[M] < 64 {
         fields[INVENTORY] = cells(fields[N].div_ceil(1 << fields[L]), fields[M]) as u64;
     }
     if follows() {
@@ -394,13 +399,12 @@ fn wrapped(random: &Random, input: &Input) -> Summary {
         1 => Summary { spill: high - random.below(input.summary.inventory + 1), ..input.summary },
         // The inventory's.
         _ => loop {
-            let m = random.below(25);
+            let m = random.below(MOST_M + 1);
             let step = (1 << m) + 1;
             let last = ((1 << 64) - 2) / step as u128;
             let (entries, m) = random.pick(&[
                 // Few cells modulo 2^64.
                 (random.below(200).wrapping_mul(inverse(step)), m),
-                (2048, 53),
                 // As many as have few bytes modulo 2^64.
                 (high.div_ceil(step), m),
                 // The last count below 2^64, and the next.
@@ -507,7 +511,7 @@ fn every_bit(tally: &mut Tally) -> (usize, u64) {
         },
         // All that there may be of samples, selected bits, L and M.
         Image { fields: [1, MOST_SAMPLES, MOST_SAMPLES, 0, 63, 0, 61, 3, 88, 0, 112], cells: vec![0, 0, MOST_SAMPLES] },
-        Image { fields: [0, 1, 0, MOST_SAMPLES - 1, 63, 53, 8, 1, 88, 0, 96], cells: vec![1] },
+        Image { fields: [0, 1, 0, MOST_SAMPLES - 1, 63, MOST_M, 51, 1, 88, 0, 96], cells: vec![1] },
     ];
     let mut flips = 0;
     for image in &images {
@@ -646,7 +650,7 @@ fn worked(tally: &mut Tally) {
         (ORIGIN, u64::MAX - 9),
         (L, (1 << 32) + 1),
         (L, 64),
-        (M, 54),
+        (M, MOST_M + 1),
         (S, 1),
         (INVENTORY, 6),
         (INVENTORY_OFFSET, 96),
@@ -661,6 +665,12 @@ fn worked(tally: &mut Tally) {
     let read_none = Summary { len: 5, n: 0, origin: 0, l: 0, inventory: 1, ..a };
     read(&none.bytes(), 1, 0, Ok(Built { summary: read_none, inventory: vec![5], spill: vec![] }));
     read(&none.with(SPILL, 1 << 61).bytes(), 1, 9, Err(15));
+    // By the rules but for the limit of M: an older image.
+    let read_most = Summary { m: MOST_M, ..read_none };
+    read(&none.with(M, MOST_M).bytes(), 1, 0, Ok(Built { summary: read_most, inventory: vec![5], spill: vec![] }));
+    for m in [MOST_M + 1, 53, 54] {
+        read(&none.with(M, m).bytes(), 1, 0, Err(15));
+    }
     read(&many_image.bytes(), 33, 0, Err(15));
     // Nothing lent, pointers to nowhere.
     let nothing = Read::new(0, &[], 0, 0, 0);
@@ -687,7 +697,7 @@ fn worked(tally: &mut Tally) {
         (Summary { n: 65_541, ..c }, 9),
         (Summary { l: 64, ..c }, 9),
         (Summary { l: (1 << 32) + 1, ..c }, 9),
-        (Summary { m: 54, ..c }, 9),
+        (Summary { m: MOST_M + 1, ..c }, 9),
         (Summary { s: 1, ..c }, 9),
         (Summary { inventory: 4, ..c }, 9),
         (c, 6),

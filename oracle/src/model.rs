@@ -1,6 +1,7 @@
 //! Document 01 as a program: plain whole numbers (u128, i128), no care for speed, each step under the sentence it
 //! follows. Written from the document alone, not from the Rust and not from the library that it judges. The list is
-//! document 02's W-201, the origin its W-202, the image its W-203, rank, next, previous and the walker its W-206.
+//! document 02's W-201, the origin its W-202, the image its W-203, rank, next, previous and the walker its W-206, the limit
+//! of M its W-207.
 
 /// A call's answer, or the number of its refusal in document 01's table.
 pub type Answer<T> = Result<T, u32>;
@@ -16,6 +17,9 @@ pub const SPAN: u32 = 1;
 pub const POWER: u32 = 2;
 pub const OVERHEAD: u32 = 3;
 pub const FIXED: u32 = 4;
+
+/// The most that a given M, its maximum, or a summary's M may be: document 02's W-207, for document 01's 53.
+pub const MAX_LOG2_WORDS: u32 = 10;
 
 /// The choice as the C interface takes it; a kind ignores what it does not name.
 #[derive(Clone, Copy, Debug, PartialEq)]
@@ -164,24 +168,11 @@ fn overhead_span(percentage: f64, maximum: u32) -> u128 {
 }
 
 /// "T is (1 + m) as f64, times 64, times 100, divided by the percentage, rounded once each, in that order, then cut to
-/// a whole number, at most 2^64 - 1, which an infinite quotient gives. For m = 2^53 the first term is 2^53 itself".
+/// a whole number, at most 2^64 - 1, which an infinite quotient gives".
 fn overhead_t(percentage: f64, maximum: u32) -> u128 {
-    let m = pow2(maximum as u128);
-    let first = if maximum == 53 { m as f64 } else { (1 + m) as f64 };
-    let quotient = first * 64.0 * 100.0 / percentage;
+    let quotient = (1 + pow2(maximum as u128)) as f64 * 64.0 * 100.0 / percentage;
     // From f64 to u128 `as` cuts; an infinite quotient gives the largest u128.
     (quotient as u128).min(pow2(64) - 1)
-}
-
-/// "`target_span_from_overhead` reckons 256 × m by m × 4096 / 16, which overflows at maximum 52 and 53": a debug build
-/// panics there.
-pub fn overflows(choice: &Choice) -> bool {
-    choice.kind == OVERHEAD && matches!(choice.log2, 52 | 53)
-}
-
-/// A release build wraps, to 0, and answers otherwise where 256 × m would have decided the span.
-pub fn overflow_decides(choice: &Choice) -> bool {
-    overflows(choice) && overhead_t(choice.percentage, choice.log2) < 256 * pow2(choice.log2 as u128)
 }
 
 /// L, M, S of a choice; the choice is lawful.
@@ -210,12 +201,12 @@ fn parameters(n: u128, len: u128, choice: &Choice) -> (u128, u128, u128) {
     (l, m, s_rule(l, m))
 }
 
-/// Refusals 3, 4 and 5: "L over 63", "given M or maximum over 53", "percentage not finite or not above 0".
+/// Refusals 3, 4 and 5: "L over 63", "given M or maximum over" the limit, "percentage not finite or not above 0".
 fn choice_refusal(choice: &Choice) -> Answer<()> {
     if matches!(choice.kind, POWER | FIXED) && choice.value > 63 {
         return Err(3);
     }
-    if choice.kind != DEFAULT && choice.log2 > 53 {
+    if choice.kind != DEFAULT && choice.log2 > MAX_LOG2_WORDS {
         return Err(4);
     }
     if choice.kind == OVERHEAD && !(choice.percentage.is_finite() && choice.percentage > 0.0) {
@@ -412,9 +403,9 @@ pub fn same(built: &Built, summary: &Summary, inventory: &[u64], spill: &[u64]) 
 
 // --------------------------------------------------------------------------- a summary and cells lent
 
-/// Refusal 9: "summary: N > `len`, L > 63, M > 53, S or inventory count not by the rules".
+/// Refusal 9: "summary: N > `len`, L > 63, M >" the limit, "S or inventory count not by the rules".
 fn rules_refusal(s: &Summary) -> Answer<()> {
-    if s.n > s.len || s.l > 63 || s.m > 53 {
+    if s.n > s.len || s.l > 63 || s.m > MAX_LOG2_WORDS as u64 {
         return Err(9);
     }
     let (n, l, m) = (s.n as u128, s.l as u128, s.m as u128);

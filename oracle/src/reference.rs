@@ -7,6 +7,9 @@ use sux::traits::rank_sel::{AddNumBits, NumBits, Select, SelectZero};
 
 pub type Record<'a> = AddNumBits<BitVec<&'a [u64]>>;
 
+/// The original's own limit of M and its maximum.
+pub const MAX_LOG2_WORDS: u32 = 53;
+
 /// What the original answers with.
 pub trait Reference {
     /// N, L, M, S.
@@ -94,7 +97,7 @@ macro_rules! pairs {
 }
 
 pairs! {
-    0: 0 1 2 3 10 53;
+    0: 0 1 2 3 10 11;
     1: 0 1 2 3;
     2: 0 1 2 3 5;
     3: 0 1 2 3;
@@ -113,7 +116,7 @@ pairs! {
     31: 0 1 10;
     32: 0 1 10;
     62: 0 3;
-    63: 0 1 2 3 10 53;
+    63: 0 1 2 3 10 11;
 }
 
 /// The original's index. None where no pair of const parameters was compiled for a fixed choice.

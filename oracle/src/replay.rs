@@ -6,7 +6,7 @@
 //! the Rust's position. Where not: the words. The end: 2^64 - 1 for W.
 
 use crate::cases::*;
-use crate::model::{self, Built, Choice, ONES, Summary, ZEROS};
+use crate::model::{self, Built, Choice, MAX_LOG2_WORDS, ONES, Summary, ZEROS};
 use crate::random::Random;
 use crate::reference;
 
@@ -84,7 +84,7 @@ pub fn write(path: &str) -> std::io::Result<()> {
         list.add(&words, len, origin, ONES, power(1, 0));
     }
     // The smallest records under every kind of choice, and random ones.
-    for choice in small_choices().into_iter().filter(|c| !model::overflow_decides(c)) {
+    for choice in small_choices() {
         let len = random.below(12);
         let words = [random.next()];
         list.add(&words, len, any_origin(len), random.below(2) as u32, choice);
@@ -104,22 +104,23 @@ pub fn write(path: &str) -> std::io::Result<()> {
         let words = record(&positions, len, polarity, 0, || random.next());
         list.add(&words, len, any_origin(len), polarity, if random.one_in(2) { power(l, m) } else { fixed(l, m) });
     }
-    // Refusals 1 to 6, alone and together.
+    // The largest M.
+    list.add(&[0x252], 10, 0, ONES, fixed(63, MAX_LOG2_WORDS));
+    // Refusals 1 to 5, alone and together.
     for choice in [
         default(),
-        span(9, 54),
+        span(9, OVER),
         power(64, 3),
-        power(64, 54),
+        power(64, OVER),
         overhead(0.0, 3),
-        overhead(f64::NAN, 54),
+        overhead(f64::NAN, OVER),
         fixed(64, 0),
-        fixed(0, 54),
+        fixed(0, OVER),
     ] {
         for (len, words) in [(10, 1), (65, 1), (64, 0), (1 << 62, 1), ((1 << 62) - 1, 1)] {
             list.add(&[0x252][..words], len, 0, ONES, choice);
         }
     }
-    list.add(&[u64::MAX; 32], 2048, 0, ONES, fixed(0, 53));
     // Refusal 14: the limit and one past it, sums that wrap in 64 bits; after 1, before 2 and the choice's.
     for (len, words, origin, choice) in [
         (10, 1, MOST_SAMPLES - 10, power(1, 0)),
@@ -130,7 +131,7 @@ pub fn write(path: &str) -> std::io::Result<()> {
         (0, 0, MOST_SAMPLES + 1, default()),
         (65, 1, MOST_SAMPLES, default()),
         (1 << 62, 1, u64::MAX, default()),
-        (10, 1, MOST_SAMPLES, fixed(64, 54)),
+        (10, 1, MOST_SAMPLES, fixed(64, OVER)),
     ] {
         list.add(&[0x252][..words], len, origin, ONES, choice);
     }

@@ -4,10 +4,10 @@ use mathlib.Core.List.{List, [], ◌∷◌, ◌++◌, append_assoc}
 use Prim.Native.Nat.{ℕ, ◌+◌, ◌-◌, ◌*◌, ◌^◌, ◌≤◌, ◌<◌}
 use native.Mathlib.Nat.{mul-le-mul_left}
 use native.Mathlib.Omega.{arith}
+use lib.Pow.{pow_mono}
 use lib.ListN.{length, take, drop, set, length-set}
 use lib.Seq.{drop-drop, drop-set-lt, length-take-le}
 use Rattle.spacing.specs.Spacing.{max_log2_words}
-use Rattle.spacing.proofs.Facts.{few_words}
 use Rattle.inventory.specs.Index.{packed, stream, own_cells}
 use Rattle.inventory.specs.Lanes.{tabulate}
 use Rattle.inventory.specs.Shape.{near_by, Shaped}
@@ -22,7 +22,7 @@ few_all n w h = omega (arith, mul-le-mul_left {m = w} {n = 4} n h)
 
 -- a cursor that is not past the lanes of an entry's own cells: n cells on, its number is still small
 pub cursor_small : {s : Shape} → Shaped s → (m k n : ℕ) → m ≤ max_log2_words → k ≤ near_by s m → n ≤ 2 ^ 60 → k + 4 * n + 4 < 2 ^ 63
-cursor_small {s} h m k n hm hk hn = omega (arith, few_words m hm, h.from, few_all (2 ^ m - s.heads) s.lanes h.few)
+cursor_small {s} h m k n hm hk hn = omega (arith, pow_mono hm, h.from, few_all (2 ^ m - s.heads) s.lanes h.few)
 
 module _ (pos : ℕ → ℕ) (x : Entry) (i : ℕ) where
   pub stream_none : (l : List ℕ) → l ≡ stream pos x i 0 ++ drop 0 l

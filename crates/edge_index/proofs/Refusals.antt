@@ -1,25 +1,31 @@
--- Refusals in their order: a list of tests is passed in its order, and what comes after the tests says 10 alone.
+-- Refusals in their order: a list of tests is passed in its order, and what comes after the tests says 10 alone. Size's 6 needs a count that
+-- only a vast record has.
 use mathlib.Core.Bool.{Bool, true, false, cond}
 use mathlib.Core.List.{List, [], ◌∷◌, ◌++◌}
 use mathlib.Core.Option.{Option, none, some}
 use mathlib.Core.Path.{◌≡◌, refl, sym, ap, ◌∙◌}
-use Prim.Native.Nat.{ℕ, ◌+◌, ◌-◌, ◌^◌}
+use Prim.Native.Nat.{ℕ, ◌+◌, ◌-◌, ◌*◌, ◌^◌, ◌≤◌, ◌<◌}
+use native.Mathlib.Nat.{mul-le-mul}
 use native.Mathlib.Omega.{arith}
 use lib.Dec.{eqb, leb, ltb}
+use lib.Pow.{pow_pos, pow_mono}
 use lib.ListN.{length, get_or}
 use borrow.Author.Tests.{le-ltb, eqb-false}
+use Rattle.rank_sel.specs.Numbers.{ceil_div}
 use Rattle.rank_sel.specs.Outcome.{Outcome, answer, refused, refuse_if, or_refuse, Conditions, refuse_by, NoneOf, and_then}
 use Rattle.rank_sel.specs.Seek.{seek}
+use Rattle.rank_sel.proofs.Ceil.{ceil_le}
 use Rattle.rank_sel.proofs.Outcome.{tests_more, tests_past}
 use Rattle.select_in_word.proofs.Bit.{ones_rank}
 use Rattle.select_in_word.proofs.Select.{word_refused, word_missing}
 use Rattle.bit_record.specs.Record.{sample_outside, selected, num_selected, count_of}
 use Rattle.bit_record.specs.declared.Polarity.{Polarity}
 use Rattle.bit_record.proofs.Counted.{admitted_none, admitted_from}
-use Rattle.spacing.specs.Spacing.{N, rule, chosen_plan, plan_of}
+use Rattle.spacing.specs.Spacing.{N, L, max_log2_words, rule, chosen_plan, plan_of}
 use Rattle.spacing.specs.declared.Choice.{Choice}
 use Rattle.spacing.specs.declared.Parameters.{Parameters}
-use Rattle.inventory.specs.Index.{inventory_len_of, summary_of}
+use Rattle.spacing.proofs.Facts.{PlanFacts, plan_facts}
+use Rattle.inventory.specs.Index.{entries_of, stride_by, stride, inventory_len_of, summary_of}
 use Rattle.inventory.specs.Lanes.{lane_of}
 use Rattle.inventory.specs.declared.summary.Summary.{Summary}
 use Rattle.build_inventory.specs.Build.{fitted, size_of, build_from, build_of, check_of}
@@ -148,13 +154,31 @@ module _ (ws : List ℕ) (len origin : ℕ) (pol : Polarity) (choice : Choice) w
   unfolding size_of
   in_size = in_then _ _ _ p _ _ in_plan (in_fit (2 ^ 64 - 1))
 
+  -- entries are at most N, and cells of each at most those of the largest M
+  count_small : (q : Parameters) → PlanFacts ws len pol q → len * stride_by max_log2_words + 1 < 2 ^ 64 → inventory_len_of q < 2 ^ 64
+  unfolding inventory_len_of entries_of
+  count_small q f h =
+      let few : ceil_div (N q) (2 ^ L q) ≤ len = omega (arith, ceil_le (N q) (2 ^ L q) (pow_pos (L q)), f.of.few, f.length) in
+      let m = mul-le-mul {n₁ = ceil_div (N q) (2 ^ L q)} {m₁ = stride q} {n₂ = len} {m₂ = stride_by max_log2_words}
+      few (omega (arith, pow_mono f.of.small_m)) in
+      omega (arith, h, m)
+
+  never_six : len * stride_by max_log2_words + 1 < 2 ^ 64 → (o : Outcome Parameters) → plan_of ws len pol choice ≡ o
+      → Never 6 (and_then o (λ q. fitted ws q (2 ^ 64 - 1)))
+  unfolding fitted Unsaid
+  never_six h (answer q) e g =
+      cc (rw (le-ltb (2 ^ 64 - 1) (inventory_len_of q) (omega (arith, count_small q (plan_facts ws len pol choice q e) h))) at g)
+  never_six h (refused n) e g =
+      let d : n ≡ 6 = cc in
+      in_never 6 _ _ _ in_plan (refl, (refl, (refl, (refl, (refl, tt))))) (e ∙ ap refused d)
+
   -- an answer that goes on to no more tests
   in_last : {A B : Type 0} (o : Outcome A) (cs : Conditions) (a : A) (go : A → B) → InOrder o cs (answer a)
       → InOrder (and_then o (λ x. answer (go x))) cs (answer (go a))
   in_last o cs a go h = record { first = λ n e. rw (h.first n e); else = λ e. rw (h.else e) }
 
   pub makers_refuse : MakersRefuse ws len origin pol choice
-  unfolding check_of summary_of Unsaid
+  unfolding size_of check_of summary_of Unsaid
   makers_refuse = record {
     count = in_count;
     plan = in_plan;
@@ -162,6 +186,7 @@ module _ (ws : List ℕ) (len origin : ℕ) (pol : Polarity) (choice : Choice) w
     count_14 = in_never 14 _ _ _ in_count (refl, (refl, tt));
     plan_14 = in_never 14 _ _ _ in_plan (refl, (refl, (refl, (refl, (refl, tt)))));
     size_14 = in_never 14 _ _ _ in_size (refl, (refl, (refl, (refl, (refl, (refl, tt))))));
+    size_6 = λ h. never_six h _ refl;
     build = in_build;
     check = λ t inv sp. in_last _ _ (summary_in ws len origin pol choice) _ (in_build (length inv) (length sp));
   }

@@ -1,6 +1,6 @@
 -- Demand 1: each refusal is given exactly where its condition holds and none before it in the order does. Document 01,
 -- "When a call is turned down", and document 02, W-201 to W-203 and W-206. The conditions are those that the definitions name.
-use Rattle.std.specs.Prelude.{cond, ◌&&◌, List, [], ◌∷◌, ◌++◌, ◌↔◌, ◌≡◌, ℕ, ◌-◌, ◌^◌, ◌≤◌, ◌<◌, ltb, length}
+use Rattle.std.specs.Prelude.{cond, ◌&&◌, List, [], ◌∷◌, ◌++◌, ◌↔◌, ◌≡◌, ℕ, ◌+◌, ◌-◌, ◌*◌, ◌^◌, ◌≤◌, ◌<◌, ltb, length}
 use Rattle.std.proofs.Math.Option.{Option, none, some}
 use Rattle.std.specs.Borrow.{Bor}
 use Rattle.std.specs.Int.Count.{ones}
@@ -8,10 +8,10 @@ use Rattle.rank_sel.specs.Outcome.{Outcome, answer, refused, Conditions}
 use Rattle.select_in_word.specs.Select.{select_in_word}
 use Rattle.bit_record.specs.Record.{len_too_large, origin_too_large, too_few_words, sample_outside, num_selected, count_of}
 use Rattle.bit_record.specs.declared.Polarity.{Polarity}
-use Rattle.spacing.specs.Spacing.{N, rule, plan_for, ones_per_inventory_too_large, words_per_subinventory_too_large, overhead_not_positive, plan_of}
+use Rattle.spacing.specs.Spacing.{N, max_log2_words, rule, plan_for, ones_per_inventory_too_large, words_per_subinventory_too_large, overhead_not_positive, plan_of}
 use Rattle.spacing.specs.declared.Choice.{Choice}
 use Rattle.spacing.specs.declared.Parameters.{Parameters}
-use Rattle.inventory.specs.Index.{inventory_len_of, summary_of}
+use Rattle.inventory.specs.Index.{stride_by, inventory_len_of, summary_of}
 use Rattle.inventory.specs.Lawful.{unlawful, inventory_too_short, spill_too_short}
 use Rattle.inventory.specs.declared.summary.Summary.{Summary}
 use Rattle.build_inventory.specs.Build.{size_of, build_of, same_summary, check_of}
@@ -92,6 +92,8 @@ module _ (ws : List ℕ) (len origin : ℕ) (pol : Polarity) (choice : Choice) w
     pub count_14 : Never 14 (count_of ws len pol)
     pub plan_14 : Never 14 (plan_of ws len pol choice)
     pub size_14 : Never 14 (size_of ws len pol choice)
+    -- size's 6, a count over 2^64 - 1, is met by vast records alone: by none of up to 17,996,823,486,545,904 bits
+    pub size_6 : len * stride_by max_log2_words + 1 < 2 ^ 64 → Never 6 (size_of ws len pol choice)
     pub build : (cells spill : ℕ) → InOrder (build_of ws len origin pol choice cells spill) (to_seven cells spill) (answer summary_in)
     pub check : (t : Summary) (inv sp : List ℕ)
         → InOrder (check_of ws len origin pol choice t inv sp) (to_seven (length inv) (length sp))

@@ -1,6 +1,6 @@
 -- Records to try: what the definitions give, beside what document 01 and the source say. Its starred lines, and the one that
 -- document 02's W-205 adds, are marked *. Then lists, beside its W-201, origins, beside W-202, images, beside
--- W-203, and steps, beside W-206.
+-- W-203, steps, beside W-206, and limits, beside W-207.
 use Rattle.std.specs.Prelude.{true, false, Option, Some, None, List, zero, suc, [], ◌∷◌, ◌++◌, map, ◌≡◌, ℕ, ◌+◌, ◌-◌, ◌^◌, pos, negsuc, length, take, drop, set, replicate}
 use Rattle.std.specs.Float.{nan, inf, fin}
 use Rattle.rank_sel.specs.Outcome.{Outcome, answer, refused}
@@ -11,8 +11,9 @@ use Rattle.bit_record.specs.declared.Polarity.{Polarity}
 use Rattle.bit_record.specs.declared.Polarity.TheVariants.{Ones, Zeros}
 use Rattle.spacing.specs.Spacing.{as_f64, capped_log2_words, overhead_span, plan_of, span_log2}
 use Rattle.spacing.specs.declared.Choice.{Choice}
-use Rattle.spacing.specs.declared.Choice.TheVariants.{Default, Span, Power, Overhead}
+use Rattle.spacing.specs.declared.Choice.TheVariants.{Default, Span, Power, Overhead, Fixed}
 use Rattle.spacing.specs.declared.Parameters.{Parameters}
+use Rattle.inventory.specs.Index.{inventory_len_of}
 use Rattle.inventory.specs.Shape.{from_span, log2_ones_per_sub32}
 use Rattle.inventory.specs.Spans.{taken_off}
 use Rattle.inventory.specs.declared.shape.SpanType.TheVariants.{U16, U32, U64}
@@ -113,22 +114,20 @@ table =
     -- * overhead 100.0, maximum 3: span 2,048; 10.0: 5,760
     ∷ line (overhead_span (as_f64 100) 3) 2048
     ∷ line (overhead_span (as_f64 10) 3) 5760
-    -- for m = 2^53 the first term is 2^53 itself; an infinite quotient gives 2^64 - 1; 256 × m holds at 52 and 53
-    ∷ line (as_f64 (1 + 2 ^ 53)) (fin false 1 (pos 53))
-    ∷ line (overhead_span (fin false 1 (negsuc 1073)) 53) (2 ^ 64 - 1)
-    ∷ line (overhead_span (as_f64 100) 52) (2 ^ 60)
-    ∷ line (overhead_span (as_f64 100) 53) (2 ^ 61)
+    -- the largest maximum; an infinite quotient gives 2^64 - 1
+    ∷ line (overhead_span (as_f64 100) 10) 262144
+    ∷ line (overhead_span (fin false 1 (negsuc 1073)) 10) (2 ^ 64 - 1)
     -- the least and the largest span
     ∷ line (span_log2 4 0 10) 0
     ∷ line (span_log2 10 (2 ^ 64 - 1) 10) 63
     -- M: each of its three bounds in turn
     ∷ line (capped_log2_words 1024 10 3) 3
-    ∷ line (capped_log2_words 1024 4 53) 2
-    ∷ line (capped_log2_words 9 63 53) 2
+    ∷ line (capped_log2_words 1024 4 10) 2
+    ∷ line (capped_log2_words 9 63 10) 2
     -- the examples of refusals 3, 4 and 5, and their order
-    ∷ line (plan_of A 10 Ones (Power 64 54)) (refused 3)
-    ∷ line (plan_of A 10 Ones (Span 4096 54)) (refused 4)
-    ∷ line (plan_of A 10 Ones (Overhead nan 54)) (refused 4)
+    ∷ line (plan_of A 10 Ones (Power 64 11)) (refused 3)
+    ∷ line (plan_of A 10 Ones (Span 4096 11)) (refused 4)
+    ∷ line (plan_of A 10 Ones (Overhead nan 11)) (refused 4)
     ∷ line (plan_of A 10 Ones (Overhead (fin false 0 (pos 0)) 3)) (refused 5)
     ∷ line (plan_of A 10 Ones (Overhead (fin true 0 (pos 0)) 3)) (refused 5)
     ∷ line (plan_of A 10 Ones (Overhead (inf false) 3)) (refused 5)
@@ -330,4 +329,34 @@ images =
     -- before 6, and 6 itself
     ∷ line (read_of (take 127 image_a) [] []) (refused 15)
     ∷ line (read_of image_a (replicate 4 0) []) (refused 6)
+    ∷ []
+
+-- ---- limits
+-- A's plan, where 10 is given, and 11
+abbrev pub at_limit : (ℕ → Choice) → List (Outcome Parameters)
+at_limit choice = map (λ m. plan_of A 10 Ones (choice m)) (10 ∷ 11 ∷ [])
+
+-- the image of ten bits without an edge, at this M
+abbrev pub edgeless : ℕ → List ℕ
+edgeless m = bytes_of (0 ∷ 10 ∷ 0 ∷ 0 ∷ 0 ∷ m ∷ 0 ∷ 1 ∷ 88 ∷ 0 ∷ 96 ∷ 10 ∷ [])
+
+abbrev pub limits : List Line
+limits =
+    -- 4: 10 is the last that may be given, in all four choices; L is up to 63, and S to 61
+    line (at_limit (Span 4096)) (answer (parameters Ones 10 4 10 0 8) ∷ refused 4 ∷ [])
+    ∷ line (at_limit (Power 63)) (answer (parameters Ones 10 4 63 0 61) ∷ refused 4 ∷ [])
+    ∷ line (at_limit (Overhead (as_f64 100))) (answer (parameters Ones 10 4 16 0 14) ∷ refused 4 ∷ [])
+    ∷ line (at_limit (Fixed 63)) (answer (parameters Ones 10 4 63 10 51) ∷ refused 4 ∷ [])
+    -- check: 4 is of the choice handed in; a summary with such an M is a no
+    ∷ line (check_of A 10 0 Ones (Power 1 11) ones_a cells_a []) (refused 4)
+    ∷ line (check_of A 10 0 Ones (Power 1 0) (summary (parameters Ones 10 4 1 11 0) 4099 0) cells_a []) (answer false)
+    -- 9, where all else is by the rules
+    ∷ line (select_of A (summary (parameters Ones 10 4 1 10 0) 2051 0) [] [] 0) (refused 6)
+    ∷ line (select_of A (summary (parameters Ones 10 4 1 11 0) 4099 0) [] [] 0) (refused 9)
+    -- 15: an older image, with an M over 10
+    ∷ line (opens (edgeless 10)) (answer (summary (parameters Ones 10 0 0 10 0) 1 0), 10 ∷ replicate 5 (2 ^ 64 - 1))
+    ∷ line (opens (edgeless 11)) (refused 15, full)
+    -- size's 6: the last count below 2^64, and the next
+    ∷ line (inventory_len_of (parameters Ones 17996823486545904 17996823486545904 0 10 0)) (2 ^ 64 - 15)
+    ∷ line (inventory_len_of (parameters Ones 17996823486545905 17996823486545905 0 10 0)) (2 ^ 64 + 1010)
     ∷ []

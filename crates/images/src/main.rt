@@ -1,4 +1,5 @@
-// Runs document 02's W-203 through the library: A's image written, read, cut, padded and bent; what it writes is held to stdout.
+// Runs document 02's W-203 through the library: A's image written, read, cut, padded and bent; and W-207's images without an edge.
+// What it writes is held to stdout.
 #![tactic(auto)]
 
 use edge_index::{Parameters, Polarity, Refusal, Summary, read_image, write_image};
@@ -13,7 +14,7 @@ const ROWS: [(usize, u64); 14] = [
     (3, 0),
     (3, 0x3fff_ffff_ffff_fff6),
     (4, 0x1_0000_0001),
-    (5, 54),
+    (5, 11),
     (6, 1),
     (7, 6),
     (8, 96),
@@ -48,6 +49,21 @@ fn summary_a() -> Summary {
         origin: 100,
         inventory_len: 5,
         spill_len: 0,
+    }
+}
+
+// Ten bits without an edge, from sample number 100 on, at this M: by the rules at any M that may be given.
+fn summary_edgeless(log2_words_per_subinventory: u32) -> Summary {
+    let plan = Parameters {
+        num: 0,
+        log2_ones_per_inventory: 0,
+        log2_words_per_subinventory,
+        ..summary_a().plan
+    };
+    Summary {
+        plan,
+        inventory_len: 1,
+        ..summary_a()
     }
 }
 
@@ -98,18 +114,36 @@ fn put_field(bytes: &mut [u8; 130], field: usize, number: u64) {
     }
 }
 
-fn show_bent(rt: &impl Print, image: [u8; 130], field: usize, number: u64) -> io::Result<()> {
+// Of an image of so many bytes.
+fn show_bent(
+    rt: &impl Print,
+    image: [u8; 130],
+    len: usize,
+    field: usize,
+    number: u64,
+) -> io::Result<()> {
     let mut bytes = image;
     put_field(&mut bytes, field, number);
     print!(rt; "field {field} is {number}")?;
-    show_read(rt, first(&bytes, 128))
+    show_read(rt, first(&bytes, len))
 }
 
 fn show_rows(rt: &impl Print, image: [u8; 130]) -> io::Result<()> {
     for (field, number) in ROWS {
-        show_bent(rt, image, field, number)?;
+        show_bent(rt, image, 128, field, number)?;
     }
     Ok(())
+}
+
+// An image with the largest M, and what an older one with more is now.
+fn show_limit(rt: &impl Print) -> io::Result<()> {
+    let mut image = [0xffu8; 130];
+    print!(rt; "write no edge, M 10")?;
+    show_write(rt, summary_edgeless(10), &[10u64], &mut image)?;
+    print!(rt; "write no edge, M 11")?;
+    show_write(rt, summary_edgeless(11), &[10u64], &mut image)?;
+    show_cut(rt, &image, 96)?;
+    show_bent(rt, image, 96, 5, 11)
 }
 
 fn main(rt: HostRuntime) -> io::Result<()> {
@@ -125,5 +159,6 @@ fn main(rt: HostRuntime) -> io::Result<()> {
     show_cut(&rt, &image, 129)?;
     show_cut(&rt, &image, 87)?;
     show_cut(&rt, &image, 0)?;
-    show_rows(&rt, image)
+    show_rows(&rt, image)?;
+    show_limit(&rt)
 }

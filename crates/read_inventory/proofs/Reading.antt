@@ -3,15 +3,14 @@ use mathlib.Core.Bool.{true, false}
 use mathlib.Core.List.{List}
 use mathlib.Core.Path.{◌≡◌, sym, ap, ◌∙◌}
 use Prim.Native.Nat.{ℕ, zero, suc, ◌+◌, ◌-◌, ◌*◌, ◌/◌, ◌%◌, ◌^◌, ◌≤◌, ◌<◌}
-use native.Mathlib.Nat.{add-zero, mod-lt, div-lt_iff_lt-mul, mul-le-mul}
+use native.Mathlib.Nat.{add-zero, mod-lt, div-lt_iff_lt-mul}
 use native.Mathlib.Omega.{arith}
 use lib.ListN.{length, get_or}
 use lib.Bits.{bit_and}
 use borrow.Author.Tests.{le-ltb, lt-ltb, le-leb, lt-leb}
 use Rattle.rank_sel.specs.Outcome.{answer, refused}
 use Rattle.select_in_word.proofs.Tail.{mask_shr, and_tail}
-use Rattle.spacing.specs.Spacing.{M, S, max_log2_words}
-use Rattle.spacing.proofs.Facts.{few_words}
+use Rattle.spacing.specs.Spacing.{M, S}
 use Rattle.inventory.specs.Lanes.{lane_of}
 use Rattle.inventory.specs.Index.{stride}
 use Rattle.inventory.specs.Shape.{near_by, Shaped, log2_ones_per_sub32, shape_of}
@@ -40,9 +39,6 @@ lane_masked w cell t h l = rw (mask_shr w h l) (and_tail (cell / 2 ^ (w * t)) w 
 
 -- ---- places
 module _ (s : Shape) (m i : ℕ) (h : Shaped s) where
-  pub near_small : m ≤ max_log2_words → (2 ^ m - s.heads) * s.lanes ≤ 2 ^ max_log2_words * 4
-  near_small l = mul-le-mul {n₁ = 2 ^ m - s.heads} {m₁ = s.lanes} {n₂ = 2 ^ max_log2_words} {m₂ = 4} (omega (arith, few_words m l)) h.few
-
   -- p is a power of two as it was reckoned
   module _ (p : ℕ) (ep : p ≡ 2 ^ m) (a : s.from ≤ i) where
     near_is : s.from + (p - s.heads) * s.lanes ≡ near_by s m

@@ -156,16 +156,17 @@ fn plans(rt: &impl Print) -> io::Result<()> {
         Choice::Span(5, 0),
     )?;
     show_choice(rt, "span 0", Choice::Span(0, 0))?;
-    show_choice(rt, "span 1", Choice::Span(1, 53))?;
-    show_choice(rt, "span 2^64 - 1", Choice::Span(u64::MAX, 52))?;
-    show_choice(rt, "span 4096, maximum 54", Choice::Span(4096, 54))?;
+    show_choice(rt, "span 1, maximum 10", Choice::Span(1, 10))?;
+    show_choice(rt, "span 2^64 - 1, maximum 10", Choice::Span(u64::MAX, 10))?;
+    show_choice(rt, "span 4096, maximum 11", Choice::Span(4096, 11))?;
     show_choice(rt, "power 63, maximum 0", Choice::Power(63, 0))?;
-    show_choice(rt, "power 63, maximum 53", Choice::Power(63, 53))?;
+    show_choice(rt, "power 63, maximum 10", Choice::Power(63, 10))?;
+    show_choice(rt, "power 63, maximum 11", Choice::Power(63, 11))?;
     show_choice(rt, "power 64", Choice::Power(64, 0))?;
-    show_choice(rt, "power 64, maximum 54", Choice::Power(64, 54))?;
-    show_choice(rt, "fixed 63, 53", Choice::Fixed(63, 53))?;
-    show_choice(rt, "fixed 63, 54", Choice::Fixed(63, 54))?;
-    show_choice(rt, "fixed 64, 54", Choice::Fixed(64, 54))
+    show_choice(rt, "power 64, maximum 11", Choice::Power(64, 11))?;
+    show_choice(rt, "fixed 63, 10", Choice::Fixed(63, 10))?;
+    show_choice(rt, "fixed 63, 11", Choice::Fixed(63, 11))?;
+    show_choice(rt, "fixed 64, 11", Choice::Fixed(64, 11))
 }
 
 fn overheads(rt: &impl Print) -> io::Result<()> {
@@ -174,13 +175,13 @@ fn overheads(rt: &impl Print) -> io::Result<()> {
     show_choice(rt, "overhead 100.0, maximum 0", Choice::Overhead(100.0, 0))?;
     show_choice(
         rt,
-        "overhead 100.0, maximum 52",
-        Choice::Overhead(100.0, 52),
+        "overhead 100.0, maximum 10",
+        Choice::Overhead(100.0, 10),
     )?;
     show_choice(
         rt,
-        "overhead 100.0, maximum 53",
-        Choice::Overhead(100.0, 53),
+        "overhead 100.0, maximum 11",
+        Choice::Overhead(100.0, 11),
     )?;
     show_choice(rt, "overhead 5e-324", Choice::Overhead(5e-324, 3))?;
     show_choice(rt, "overhead 1e308", Choice::Overhead(1e308, 3))?;
@@ -191,8 +192,8 @@ fn overheads(rt: &impl Print) -> io::Result<()> {
     show_choice(rt, "overhead NaN", Choice::Overhead(0.0 / 0.0, 3))?;
     show_choice(
         rt,
-        "overhead NaN, maximum 54",
-        Choice::Overhead(0.0 / 0.0, 54),
+        "overhead NaN, maximum 11",
+        Choice::Overhead(0.0 / 0.0, 11),
     )
 }
 
@@ -1074,6 +1075,57 @@ fn steps_by_wrong_summaries(rt: &impl Print) -> io::Result<()> {
     show_neighbours(rt, "A, N 11", many, &[99u64])
 }
 
+// The summary of A's ones by a fixed choice of 63 and this M.
+fn fixed_by(m: u32, s: u32, inventory_len: u64) -> Summary {
+    changed(
+        summary_of(Polarity::Ones, 10, 4, 63, s, inventory_len, 0),
+        |s| s.plan.log2_words_per_subinventory = m,
+    )
+}
+
+fn check_fixed(rt: &impl Print, m: u32, summary: Summary, cells: &[u64]) -> io::Result<()> {
+    let a = [0x252u64];
+    let none = [0u64; 0];
+    print!(rt; "check A, fixed 63, {m}: ")?;
+    show_checked(
+        rt,
+        check(
+            &a,
+            10,
+            0,
+            Polarity::Ones,
+            Choice::Fixed(63, m),
+            summary,
+            cells,
+            &none,
+        ),
+    )
+}
+
+// The largest M, built and read; then one more, by choice and by summary.
+fn limits(rt: &impl Print) -> io::Result<()> {
+    let a = [0x252u64];
+    let mut none = [0u64; 0];
+    let mut cells = [u64::MAX; 1026];
+    let choice = Choice::Fixed(63, 10);
+    print!(rt; "build A, fixed 63, 10: ")?;
+    end(
+        rt,
+        build(&a, 10, 0, Polarity::Ones, choice, &mut cells, &mut none),
+        |summary| end_built(rt, summary),
+    )?;
+    let right = fixed_by(10, 51, 1026);
+    let over = fixed_by(11, 50, 2050);
+    for rank in 0..5u64 {
+        print!(rt; "rank {rank}: ")?;
+        show(rt, select(&a, right, &cells, &none, rank))?;
+    }
+    show_select(rt, "A, M 11", &a, over, &cells, &none, 0)?;
+    check_fixed(rt, 10, right, &cells)?;
+    check_fixed(rt, 10, over, &cells)?;
+    check_fixed(rt, 11, over, &cells)
+}
+
 fn counts_and_plans(rt: &impl Print) -> io::Result<()> {
     counts(rt)?;
     in_words(rt)?;
@@ -1128,5 +1180,6 @@ fn main(rt: HostRuntime) -> io::Result<()> {
     checks(&rt)?;
     lists(&rt)?;
     origins(&rt)?;
-    steps(&rt)
+    steps(&rt)?;
+    limits(&rt)
 }

@@ -21,10 +21,6 @@ pub record PlanFacts (ws : List ℕ) (len : ℕ) (pol : Polarity) (p : Parameter
   pub length : p.len ≡ len
   pub of : PlanOf ws p
 
--- the cells of a subinventory, within the largest M
-pub few_words : (m : ℕ) → m ≤ max_log2_words → 2 ^ m ≤ 2 ^ max_log2_words
-few_words m h = pow_mono h
-
 -- the span of an overhead is a u64
 target_small : (percentage : Float) (m : ℕ) → overhead_target percentage m < 2 ^ 64
 unfolding overhead_target
@@ -32,7 +28,7 @@ target_small percentage m = to_unsigned-lt 64 _
 
 overhead_small : (percentage : Float) (maximum : ℕ) → maximum ≤ max_log2_words → overhead_span percentage maximum < 2 ^ 64
 unfolding overhead_span
-overhead_small percentage maximum h = omega (arith, target_small percentage (2 ^ maximum), few_words maximum h)
+overhead_small percentage maximum h = omega (arith, target_small percentage (2 ^ maximum), pow_mono h)
 
 module _ (ws : List ℕ) (len : ℕ) (pol : Polarity) (a : Admitted ws len) where
   abbrev num : ℕ

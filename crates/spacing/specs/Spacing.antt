@@ -85,9 +85,9 @@ ones_per_inventory_too_large num len (power l maximum) = nat_lt 63 l
 ones_per_inventory_too_large num len (overhead percentage maximum) = false
 ones_per_inventory_too_large num len (fixed l m) = nat_lt 63 l
 
--- the most that a given M or maximum may be
+-- the most that a given M or maximum may be: document 02's W-207, where document 01 has 53
 abbrev pub max_log2_words : ℕ
-max_log2_words = 53
+max_log2_words = 10
 
 -- the condition of refusal 4: given M or maximum over it
 abbrev pub words_per_subinventory_too_large : Rule → Bool

@@ -19,7 +19,7 @@ use rank_sel::Refusal;
 use wide::span_log2;
 
 // The most that a caller may give as M, or as the maximum of M.
-pub const MAX_LOG2_WORDS_PER_SUBINVENTORY: u32 = 53;
+pub const MAX_LOG2_WORDS_PER_SUBINVENTORY: u32 = 10;
 
 #[derive(Clone, Copy)]
 pub enum Choice {

@@ -4,6 +4,8 @@ ghost use Rattle.std.specs.Float.Ieee.{to_unsigned};
 ghost use Rattle.std.specs.Float.Ieee.Positive.{positive};
 ghost use Rattle.spacing.specs.Spacing.{max_log2_words as largest_log2_words, overhead_span};
 
+use rank_sel::pow2;
+
 // Finite, and above 0.
 pub fn is_positive(x: f64) -> bool
     ensures { result ≡ positive x }
@@ -47,7 +49,7 @@ pub fn target_span_from_overhead(percentage: f64, max_log2_words: u32) -> u64
     requires { max_log2_words ≤ largest_log2_words }
     ensures { result ≡ overhead_span percentage max_log2_words }
 {
-    let m = 1u64 << max_log2_words;
-    let target = std::num::nearest_u64_to_f64(1 + m) * 64.0 * 100.0 / percentage;
+    let m = pow2(max_log2_words);
+    let target = (1 + m) as f64 * 64.0 * 100.0 / percentage;
     saturating_f64_to_u64(target).max(256 * m)
 }

@@ -1,26 +1,7 @@
 -- The lanes are a power of two, so that shift and low bits are the quotient and the rest by them.
 use native.Mathlib.Omega.{arith}
 use Rattle.inventory.proofs.Shapes.{lanes_log}
-use Rattle.read_inventory.proofs.Reading.{near_small}
 use Rattle.read_inventory.proofs.decode.place_of.Goals as goal
-
-pub overflow_mul-near : goal.overflow_mul-near
-overflow_mul-near c =
-    let a = c.args in
-    rw c.pow2.ensures
-    (record { fits = omega (arith, near_small a.shape a.log2_words_per_subinventory 0 c.requires.0 c.requires.1) })
-
-pub overflow_add-near : goal.overflow_add-near
-overflow_add-near c =
-    let a = c.args in
-    rw c.pow2.ensures
-    (record {
-      fits = omega (
-        arith,
-        c.requires.0.from,
-        near_small a.shape a.log2_words_per_subinventory 0 c.requires.0 c.requires.1,
-      );
-    })
 
 pub overflow_shr-result : goal.overflow_shr-result
 overflow_shr-result c =
