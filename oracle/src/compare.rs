@@ -177,7 +177,7 @@ impl Tally {
                     self.known.add(&format!("refusal {refusal}, where the Rust panics"), case, message(&panic))
                 }
                 Ok(true) if refusal == 4 && within => {
-                    self.known.add("refusal 4, where the Rust, whose limit is 53, builds an index", case, "")
+                    self.known.add("refusal 4, where the Rust, whose own limit is higher, builds an index", case, "")
                 }
                 Ok(true) => self.difference(case, format!("refusal {refusal}, but the Rust builds an index")),
                 Ok(false) => self.skipped.add("the Rust, for a fixed pair not compiled in", case, ""),

@@ -7,6 +7,7 @@ use crate::damage::{self, Input, Tally, first};
 use crate::ffi::{self, TOUCHED};
 use crate::model::{self, Answer, BAD_CODE, Built, MAX_LOG2_WORDS, ONES, Summary, ZEROS};
 use crate::random::Random;
+use crate::reference;
 use std::fmt::{Display, Formatter};
 use std::time::Instant;
 
@@ -668,7 +669,7 @@ fn worked(tally: &mut Tally) {
     // By the rules but for the limit of M: an older image.
     let read_most = Summary { m: MOST_M, ..read_none };
     read(&none.with(M, MOST_M).bytes(), 1, 0, Ok(Built { summary: read_most, inventory: vec![5], spill: vec![] }));
-    for m in [MOST_M + 1, 53, 54] {
+    for m in [MOST_M + 1, reference::MAX_LOG2_WORDS as u64] {
         read(&none.with(M, m).bytes(), 1, 0, Err(15));
     }
     read(&many_image.bytes(), 33, 0, Err(15));

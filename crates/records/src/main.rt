@@ -693,8 +693,14 @@ fn wrong_summaries(right: Summary) -> [Summary; 7] {
     ]
 }
 
-// A's ones, power 1, 0, and C's, against a summary and cells handed in.
-fn check_a_from(rt: &impl Print, origin: u64, summary: Summary, cells: &[u64]) -> io::Result<()> {
+// A's ones, and C's, against a summary and cells handed in.
+fn check_a_by(
+    rt: &impl Print,
+    choice: Choice,
+    origin: u64,
+    summary: Summary,
+    cells: &[u64],
+) -> io::Result<()> {
     let a = [0x252u64];
     let none = [0u64; 0];
     print!(rt; "check A: ")?;
@@ -705,12 +711,16 @@ fn check_a_from(rt: &impl Print, origin: u64, summary: Summary, cells: &[u64]) -
             10,
             origin,
             Polarity::Ones,
-            Choice::Power(1, 0),
+            choice,
             summary,
             cells,
             &none,
         ),
     )
+}
+
+fn check_a_from(rt: &impl Print, origin: u64, summary: Summary, cells: &[u64]) -> io::Result<()> {
+    check_a_by(rt, Choice::Power(1, 0), origin, summary, cells)
 }
 
 fn check_a(rt: &impl Print, summary: Summary, cells: &[u64]) -> io::Result<()> {
@@ -1083,25 +1093,6 @@ fn fixed_by(m: u32, s: u32, inventory_len: u64) -> Summary {
     )
 }
 
-fn check_fixed(rt: &impl Print, m: u32, summary: Summary, cells: &[u64]) -> io::Result<()> {
-    let a = [0x252u64];
-    let none = [0u64; 0];
-    print!(rt; "check A, fixed 63, {m}: ")?;
-    show_checked(
-        rt,
-        check(
-            &a,
-            10,
-            0,
-            Polarity::Ones,
-            Choice::Fixed(63, m),
-            summary,
-            cells,
-            &none,
-        ),
-    )
-}
-
 // The largest M, built and read; then one more, by choice and by summary.
 fn limits(rt: &impl Print) -> io::Result<()> {
     let a = [0x252u64];
@@ -1121,9 +1112,9 @@ fn limits(rt: &impl Print) -> io::Result<()> {
         show(rt, select(&a, right, &cells, &none, rank))?;
     }
     show_select(rt, "A, M 11", &a, over, &cells, &none, 0)?;
-    check_fixed(rt, 10, right, &cells)?;
-    check_fixed(rt, 10, over, &cells)?;
-    check_fixed(rt, 11, over, &cells)
+    check_a_by(rt, choice, 0, right, &cells)?;
+    check_a_by(rt, choice, 0, over, &cells)?;
+    check_a_by(rt, Choice::Fixed(63, 11), 0, over, &cells)
 }
 
 fn counts_and_plans(rt: &impl Print) -> io::Result<()> {
