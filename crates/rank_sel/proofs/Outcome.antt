@@ -150,6 +150,9 @@ tests_handed_on r e h cs ecs rest = answer_stopped cs tt rest r e h ecs
 pub passed_none : (cs : Conditions) → answer tt ≡ test_by cs → NoneOf cs
 passed_none cs e = (passed_all cs (answer tt) tt (sym e)).0
 
+pub through_where_none : (cs : Conditions) → (test_by cs ≡ answer tt) ↔ NoneOf cs
+through_where_none cs = ((λ e. passed_none cs (sym e)), passing cs (answer tt))
+
 -- and what comes after them is the answer
 pub passed_then : {A : Type 0} (cs : Conditions) → answer tt ≡ test_by cs → (rest : Outcome A) → rest ≡ refuse_by cs rest
 passed_then cs e rest = sym (passing cs rest (passed_none cs e))

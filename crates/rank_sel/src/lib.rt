@@ -1,10 +1,12 @@
-// The words that every contract is written in: rank and seek over any set of positions (specs/), what a call may be
-// turned down for, and a few functions on whole numbers.
+// The words that every contract is written in: rank and seek over any set of positions (specs/), the laws that these are held to
+// (laws.rt), what a call may be turned down for, and a few functions on whole numbers.
 #![tactic(auto)]
 
 ghost use Rattle.std.specs.Prelude.{◌≡◌, ◌^◌, ◌<◌};
 ghost use Rattle.rank_sel.specs.Numbers.{ceil_div, ilog2 as whole_log2};
 ghost use Rattle.rank_sel.specs.Outcome.{number_of};
+
+pub mod laws;
 
 // A case for each row of document 01, "When a call is turned down", then those of document 02.
 #[derive(Clone, Copy, Debug, PartialEq, Eq)]
