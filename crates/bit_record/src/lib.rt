@@ -6,6 +6,7 @@ ghost use Rattle.rank_sel.specs.Outcome.{outcome, test_by};
 ghost use Rattle.select_in_word.specs.Holds.{Holds};
 ghost use Rattle.bit_record.specs.Record.{CountsWords, bit_at, chosen, complemented, count_of, of_len, of_record_from, origin_too_large, position_at, sample_at, selected};
 
+pub mod laws;
 mod record;
 mod seeks;
 mod steps;
