@@ -1,3 +1,4 @@
+pub mod Messages
 pub mod Number
 pub mod Scan
 pub mod Words

@@ -1,6 +1,7 @@
 // What find_edge is given, as text and as bytes.
 #![tactic(auto)]
 
+pub mod laws;
 mod number;
 mod scan;
 mod words;

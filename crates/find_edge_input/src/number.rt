@@ -13,10 +13,15 @@ pub enum NumberError {
 }
 
 impl fmt::Display for NumberError {
+    ghost use Rattle.std.specs.Prelude.{Some};
+    ghost use Rattle.find_edge_input.specs.Messages.{error_text};
+
+    ghost output = { λ e. Some (error_text e) };
+
     fn fmt<W: fmt::Write>(&self, f: &mut fmt::Formatter<W>) -> fmt::Result {
         match self {
-            NumberError::NotANumber => write!(f, "not a number"),
-            NumberError::TooLarge => write!(f, "too large"),
+            NumberError::NotANumber => f.write_str("not a number"),
+            NumberError::TooLarge => f.write_str("too large"),
         }
     }
 }
