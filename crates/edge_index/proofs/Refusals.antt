@@ -105,9 +105,9 @@ in_never {A} n o (c ∷ cs) a h u e =
 
 -- ---- the entries that take a choice
 module _ (ws : List ℕ) (len origin : ℕ) (pol : Polarity) (choice : Choice) where
-  in_plan : InOrder (plan_of ws len pol choice) (record_order ws len ++ choice_order ws len pol choice) (answer (plan_in ws len pol choice))
+  in_plan : InOrder (plan_of ws len pol choice) (record_order ws len ++ choice_order choice) (answer (plan_in ws len pol choice))
   unfolding plan_of count_of chosen_plan
-  in_plan = in_then _ _ _ (num_selected pol ws len) _ _ (in_tests (record_order ws len) _) (in_tests (choice_order ws len pol choice) _)
+  in_plan = in_then _ _ _ (num_selected pol ws len) _ _ (in_tests (record_order ws len) _) (in_tests (choice_order choice) _)
 
   -- past the tests of a record from an origin on, plan's own of the record are passed
   plan_past : NoneOf (record_from_order ws len origin) → plan_of ws len pol choice ≡ chosen_plan pol len (num_selected pol ws len) (rule choice)
@@ -116,12 +116,12 @@ module _ (ws : List ℕ) (len origin : ℕ) (pol : Polarity) (choice : Choice) w
 
   in_plan_from :
       InOrder (refuse_by (record_from_order ws len origin) (plan_of ws len pol choice))
-      (record_from_order ws len origin ++ choice_order ws len pol choice) (answer (plan_in ws len pol choice))
+      (record_from_order ws len origin ++ choice_order choice) (answer (plan_in ws len pol choice))
   unfolding chosen_plan
   in_plan_from =
       let e = tests_past (record_from_order ws len origin) _ _ plan_past
-      ∙ sym (tests_more (record_from_order ws len origin) (choice_order ws len pol choice) _) in
-      rw e (in_tests (record_from_order ws len origin ++ choice_order ws len pol choice) _)
+      ∙ sym (tests_more (record_from_order ws len origin) (choice_order choice) _) in
+      rw e (in_tests (record_from_order ws len origin ++ choice_order choice) _)
 
   abbrev p : Parameters
   p = plan_in ws len pol choice
@@ -144,7 +144,7 @@ module _ (ws : List ℕ) (len origin : ℕ) (pol : Polarity) (choice : Choice) w
       (answer (summary_in ws len origin pol choice))
   unfolding build_of summary_of
   in_build cells spill =
-      in_then _ (record_from_order ws len origin ++ choice_order ws len pol choice) _ p _ _ in_plan_from (in_from cells spill)
+      in_then _ (record_from_order ws len origin ++ choice_order choice) _ p _ _ in_plan_from (in_from cells spill)
 
   in_count : InOrder (count_of ws len pol) (record_order ws len) (answer (num_selected pol ws len))
   unfolding count_of

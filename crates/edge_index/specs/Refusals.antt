@@ -51,9 +51,9 @@ record_order ws len = (len_too_large len, 1) ∷ (too_few_words ws len, 2) ∷ [
 abbrev pub record_from_order : List ℕ → ℕ → ℕ → Conditions
 record_from_order ws len origin = (len_too_large len, 1) ∷ (origin_too_large origin len, 14) ∷ (too_few_words ws len, 2) ∷ []
 
-abbrev pub choice_order : List ℕ → ℕ → Polarity → Choice → Conditions
-choice_order ws len pol choice =
-    (ones_per_inventory_too_large (num_selected pol ws len) len (rule choice), 3)
+abbrev pub choice_order : Choice → Conditions
+choice_order choice =
+    (ones_per_inventory_too_large (rule choice), 3)
     ∷ (words_per_subinventory_too_large (rule choice), 4)
     ∷ (overhead_not_positive (rule choice), 5)
     ∷ []
@@ -78,7 +78,7 @@ module _ (ws : List ℕ) (len origin : ℕ) (pol : Polarity) (choice : Choice) w
 
   -- after the record's, those of the choice, then 6 where the inventory count is over so many cells
   abbrev pub to_six : Conditions → ℕ → Conditions
-  to_six tests most = (tests ++ choice_order ws len pol choice) ++ ((ltb most (inventory_len_of (plan_in ws len pol choice)), 6) ∷ [])
+  to_six tests most = (tests ++ choice_order choice) ++ ((ltb most (inventory_len_of (plan_in ws len pol choice)), 6) ∷ [])
 
   -- 7 where the spill count is
   abbrev pub to_seven : ℕ → ℕ → Conditions
@@ -86,7 +86,7 @@ module _ (ws : List ℕ) (len origin : ℕ) (pol : Polarity) (choice : Choice) w
 
   pub record MakersRefuse : Type 0 where
     pub count : InOrder (count_of ws len pol) (record_order ws len) (answer (num_selected pol ws len))
-    pub plan : InOrder (plan_of ws len pol choice) (record_order ws len ++ choice_order ws len pol choice) (answer (plan_in ws len pol choice))
+    pub plan : InOrder (plan_of ws len pol choice) (record_order ws len ++ choice_order choice) (answer (plan_in ws len pol choice))
     pub size : InOrder (size_of ws len pol choice) (to_six (record_order ws len) (2 ^ 64 - 1)) (answer (record { inventory = summary_in.inventory_len; spill = summary_in.spill_len }))
     -- these three take no origin, and never say 14
     pub count_14 : Never 14 (count_of ws len pol)

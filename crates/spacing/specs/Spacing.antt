@@ -1,5 +1,5 @@
 -- The rules of the spacing. Document 01, "Choosing the spacing" and "When a call is turned down".
-use Rattle.std.specs.Prelude.{◌≡◌, ℕ, ◌+◌, ◌-◌, ◌*◌, ◌^◌, ◌≤◌, min, max, Bool, false, not, List, [], ◌∷◌, pos, nat_lt, Float}
+use Rattle.std.specs.Prelude.{◌≡◌, ℕ, ◌+◌, ◌-◌, ◌*◌, ◌^◌, ◌<◌, ◌≤◌, min, max, Bool, false, not, List, [], ◌∷◌, pos, nat_lt, Float}
 use Rattle.std.specs.Float.{binary64}
 use Rattle.std.specs.Float.Ieee.{of_int, mul, div, to_unsigned}
 use Rattle.std.specs.Float.Ieee.Positive.{positive}
@@ -24,14 +24,15 @@ M p = p.log2_words_per_subinventory
 abbrev pub S : Parameters → ℕ
 S p = p.log2_ones_per_sub16
 
--- what document 01 says of each choice; default is the span choice with 4,096 and 3, and no rule of its own
+-- what document 01 says of each choice; default is the span choice with 4,096 and 3, and no rule of its own. A span is a
+-- u64: of a number above, which no call can pass, the rule is the largest u64's
 pub data Rule : Type 0 where
   span power fixed : ℕ → ℕ → Rule
   overhead : Float → ℕ → Rule
 
 abbrev pub rule : Choice → Rule
 rule Default = span 4096 3
-rule (Span target maximum) = span target maximum
+rule (Span target maximum) = span (min target (2 ^ 64 - 1)) maximum
 rule (Power l maximum) = power l maximum
 rule (Overhead percentage maximum) = overhead percentage maximum
 rule (Fixed l m) = fixed l m
@@ -77,13 +78,12 @@ plan_for pol len num (power l maximum) = capped pol len num l maximum
 plan_for pol len num (overhead percentage maximum) = capped pol len num (span_log2 num (overhead_span percentage maximum) len) maximum
 plan_for pol len num (fixed l m) = plan_with pol len num l m
 
--- the condition of refusal 3: L over 63. A span that is a u64 gives no such L (proofs/Span.antt, `span_most`), and
--- neither does an overhead, whose span is a u64 wherever 4 does not hold
-abbrev pub ones_per_inventory_too_large : ℕ → ℕ → Rule → Bool
-ones_per_inventory_too_large num len (span target maximum) = nat_lt 63 (span_log2 num target len)
-ones_per_inventory_too_large num len (power l maximum) = nat_lt 63 l
-ones_per_inventory_too_large num len (overhead percentage maximum) = false
-ones_per_inventory_too_large num len (fixed l m) = nat_lt 63 l
+-- the condition of refusal 3: a given L over 63. An L that is reckoned never is (`ReckonedSmall`)
+abbrev pub ones_per_inventory_too_large : Rule → Bool
+ones_per_inventory_too_large (span target maximum) = false
+ones_per_inventory_too_large (power l maximum) = nat_lt 63 l
+ones_per_inventory_too_large (overhead percentage maximum) = false
+ones_per_inventory_too_large (fixed l m) = nat_lt 63 l
 
 -- the most that a given M or maximum may be: document 02's W-207, where document 01 has 53
 abbrev pub max_log2_words : ℕ
@@ -103,15 +103,21 @@ overhead_not_positive (power l maximum) = false
 overhead_not_positive (overhead percentage maximum) = not (positive percentage)
 overhead_not_positive (fixed l m) = false
 
-abbrev pub of_rule : ℕ → ℕ → Rule → Conditions
-of_rule num len r = (ones_per_inventory_too_large num len r, 3) ∷ (words_per_subinventory_too_large r, 4) ∷ (overhead_not_positive r, 5) ∷ []
+abbrev pub of_rule : Rule → Conditions
+of_rule r = (ones_per_inventory_too_large r, 3) ∷ (words_per_subinventory_too_large r, 4) ∷ (overhead_not_positive r, 5) ∷ []
 
 -- what a rule makes of a counted record
 unfoldable pub chosen_plan : Polarity → ℕ → ℕ → Rule → Outcome Parameters
-chosen_plan pol len num r = refuse_by (of_rule num len r) (answer (plan_for pol len num r))
+chosen_plan pol len num r = refuse_by (of_rule r) (answer (plan_for pol len num r))
 
 unfoldable pub plan_of : List ℕ → ℕ → Polarity → Choice → Outcome Parameters
 plan_of ws len pol choice = and_then (count_of ws len pol) (λ num. chosen_plan pol len num (rule choice))
+
+-- the L that is reckoned, from a span or from an overhead with an accepted maximum, is at most 63
+pub record ReckonedSmall : Type 0 where
+  pub of_span : (num len target : ℕ) → num ≤ len → target < 2 ^ 64 → span_log2 num target len ≤ 63
+  pub of_overhead : (num len : ℕ) (percentage : Float) (maximum : ℕ) → num ≤ len → maximum ≤ max_log2_words
+      → span_log2 num (overhead_span percentage maximum) len ≤ 63
 
 -- p is a plan of this record: what holds of whatever `plan` answers
 pub record PlanOf (ws : List ℕ) (p : Parameters) : Type 0 where

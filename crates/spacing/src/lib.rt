@@ -8,6 +8,7 @@ ghost use Rattle.bit_record.specs.Selects.{RecordOf};
 ghost use Rattle.spacing.specs.Spacing.{capped, chosen_plan, max_log2_words as most_log2_words, plan_of, plan_with, rule};
 ghost use Rattle.spacing.specs.Spacing.{fixed, overhead as overhead_rule, power, span};
 
+pub mod laws;
 mod numbers;
 mod overhead;
 mod wide;
@@ -109,7 +110,7 @@ impl Counted {
         self.with_both(log2_ones, max_log2_words.min(most))
     }
 
-    // A span that is a u64 gives an L below 64, so there is no test of L.
+    // A span gives an L below 64 (`laws::reckoned_l_is_small`), so there is no test of L.
     fn with_span(self, target_span: u64, max_log2_words: u32) -> Result<Parameters, Refusal>
         ensures { outcome result ≡ chosen_plan self.polarity self.len self.num (span target_span max_log2_words) }
     {
