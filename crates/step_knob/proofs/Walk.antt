@@ -10,7 +10,8 @@ use native.Mathlib.Omega.{arith}
 use lib.ListN.{length, get_or}
 use borrow.Author.Tests.{le-ltb}
 use Rattle.std.specs.Prelude as std
-use Rattle.rank_sel.specs.Outcome.{Outcome, answer, refused, NoneOf}
+use Rattle.rank_sel.specs.Outcome.{Outcome, answer, refused, outcome, NoneOf}
+use Rattle.rank_sel.specs.declared.Refusal.{Refusal}
 use Rattle.rank_sel.specs.Step.{last_before, next_from, Last, Next}
 use Rattle.rank_sel.proofs.Outcome.{answer_is, none_join, none_split, passed_all, passing}
 use Rattle.rank_sel.proofs.Step.{last_exact, next_exact}
@@ -20,8 +21,9 @@ use Rattle.bit_record.specs.declared.Polarity.{Polarity}
 use Rattle.bit_record.proofs.Counted.{admitted_from, admitted_from_none}
 use Rattle.bit_record.proofs.Selected.{selected_lt}
 use Rattle.inventory.specs.declared.summary.Summary.{Summary}
-use Rattle.step_knob.specs.Step.{edge_at, edge_before, edge_from, next_of, of_step, of_turn, place_after, previous_of, turn_of}
-use Rattle.step_knob.specs.Walk.{Edge, FirstEdge, FirstExact, LastEdge, LastExact, ListsEdges, WalkExact, Walks}
+use Rattle.step_knob.specs.Step.{edge_at, edge_before, edge_from, next_of, of_step, of_turn, place_after, previous_of, turn_of, walker_after}
+use Rattle.step_knob.specs.Walk.{Edge, FirstEdge, FirstExact, IsAdmitted, IsFirst, LastEdge, LastExact, ListsEdges, WalkExact, Walks, turn_from}
+use Rattle.step_knob.specs.declared.walker.Walker.{Walker}
 
 -- ---- an edge that is answered
 module _ (origin : ℕ) where
@@ -251,3 +253,20 @@ module _ (ws : List ℕ) (t : Summary) (x : ℕ) (h : NoneOf (of_step ws t x)) w
 
   pub next_turn : let p = t.plan in next_of ws t x ≡ turn_of ws p.len p.polarity t.origin x
   next_turn = let p = t.plan in next_is ∙ sym (turn_is ws p.len p.polarity t.origin x step_turn)
+
+-- ---- of a walker
+-- the edge of an answered turn is the first from the walker's place on
+pub turned_first : (w : Walker) (r : std.Result (std.Option ℕ) Refusal) → outcome r ≡ turn_from w → std.IfOk r (λ found. IsFirst w found)
+turned_first w (std.Ok found) told =
+    let h = turn_passed w.words.now w.len w.polarity w.origin w.place found (sym told) in
+    subst (FirstExact w.words.now w.len w.polarity w.origin w.place) (sym told)
+    (turn_gives w.words.now w.len w.polarity w.origin w.place h)
+turned_first w (std.Err n) told = tt
+
+-- and no turn of the walker handed back is turned down
+pub turned_on : (w v : Walker) (r : std.Result (std.Option ℕ) Refusal) → outcome r ≡ turn_from w → v ≡ walker_after w
+    → std.OnOk r (IsAdmitted v)
+turned_on w v (std.Ok found) told after =
+    let h = turn_passed w.words.now w.len w.polarity w.origin w.place found (sym told) in
+    subst IsAdmitted (sym after) (turn_stays w.words.now w.len w.polarity w.origin w.place h)
+turned_on w v (std.Err n) told after = tt

@@ -1,11 +1,12 @@
--- What steps and walks are held to: the first edge from a sample on, the last before it, and the turns that list them. Statements;
--- the proofs are in proofs/Walk.antt. Document 02, W-206.
+-- What steps and walks are held to: the first edge from a sample on, the last before it, and the turns that list them. Document 02,
+-- W-206.
 use Rattle.std.specs.Prelude as std
 use Rattle.std.specs.Prelude.{true, List, [], ◌∷◌, ◌↔◌, ◌≡◌, ℕ, ◌-◌, ◌≤◌, ◌<◌, length, get_or}
-use Rattle.rank_sel.specs.Outcome.{Outcome, answer}
+use Rattle.rank_sel.specs.Outcome.{Outcome, answer, NoneOf}
 use Rattle.bit_record.specs.Record.{selected, sample_at}
 use Rattle.bit_record.specs.declared.Polarity.{Polarity}
-use Rattle.step_knob.specs.Step.{turn_of, place_after}
+use Rattle.step_knob.specs.Step.{of_turn, turn_of, place_after}
+use Rattle.step_knob.specs.declared.walker.Walker.{Walker}
 
 module _ (ws : List ℕ) (len : ℕ) (pol : Polarity) (origin : ℕ) where
   -- an edge: the sample number of a selected position
@@ -49,3 +50,16 @@ module _ (ws : List ℕ) (len : ℕ) (pol : Polarity) (origin : ℕ) where
   pub record WalkExact (x : ℕ) : Type 0 where
     pub ends : (es : List ℕ) × Walks x es
     pub lists : (es : List ℕ) → Walks x es → ListsEdges x es
+
+-- ---- of a walker
+-- what a turn of it gives
+abbrev pub turn_from : Walker → Outcome (std.Option ℕ)
+turn_from w = turn_of w.words.now w.len w.polarity w.origin w.place
+
+-- its turn is not turned down
+abbrev pub IsAdmitted : Walker → Type 0
+IsAdmitted w = NoneOf (of_turn w.words.now w.len w.origin w.place)
+
+-- this is the first edge from its place on, or none is left there
+abbrev pub IsFirst : Walker → std.Option ℕ → Type 0
+IsFirst w found = FirstExact w.words.now w.len w.polarity w.origin w.place (answer found)

@@ -31,7 +31,8 @@ pub(crate) fn edge_at(origin: u64, position: Option<u64>) -> Option<u64>
     }
 }
 
-// Next: the first edge at or after a sample.
+/// Next: the first edge at or after a sample, or none. The record and its summary are all that is read; the sample lies in the
+/// record, or at its end.
 pub fn next(words: &[u64], summary: Summary, sample: u64) -> Result<Option<u64>, Refusal>
     ensures { outcome result ≡ next_of words.now summary sample }
 {
@@ -40,7 +41,7 @@ pub fn next(words: &[u64], summary: Summary, sample: u64) -> Result<Option<u64>,
     Ok(edge_at(summary.origin, record.next_from(position)))
 }
 
-// Previous: the last edge before a sample.
+/// Previous: the last edge before a sample, or none. It asks for what `next` does, and turns down the same.
 pub fn previous(words: &[u64], summary: Summary, sample: u64) -> Result<Option<u64>, Refusal>
     ensures { outcome result ≡ previous_of words.now summary sample }
 {

@@ -1,14 +1,15 @@
 // The walker.
-ghost use Rattle.std.specs.Prelude.{◌≡◌};
+ghost use Rattle.std.specs.Prelude.{◌≡◌, ◌+◌, IfOk, OnErr, OnOk, MatchOption};
 ghost use Rattle.rank_sel.specs.Outcome.{outcome};
-ghost use Rattle.step_knob.specs.Step.{open_of, turn_of, walker_after};
+ghost use Rattle.step_knob.specs.Step.{next_of, open_of, turn_of, walker_after, walker_at};
+ghost use Rattle.step_knob.specs.Walk.{IsAdmitted, IsFirst, turn_from};
 
 use crate::step::{edge_at, test_step};
 use bit_record::{Polarity, Record, position_at, test_record};
 use inventory::Summary;
 use rank_sel::Refusal;
 
-// A walker over a record's words, which goes from edge to edge. Anyone may make one: each turn tests it.
+/// A walker over a record's words, which goes from edge to edge. Anyone may make one: each turn tests it.
 #[derive(Clone, Copy)]
 pub struct Walker<'a> {
     pub words: &'a [u64],
@@ -18,7 +19,7 @@ pub struct Walker<'a> {
     pub place: u64,
 }
 
-// What a turn gives: an edge, none, or a refusal; and the walker handed back.
+/// What a turn gives: an edge, none, or a refusal; and the walker handed back.
 #[derive(Clone, Copy)]
 pub struct Turn<'a> {
     pub edge: Result<Option<u64>, Refusal>,
@@ -26,9 +27,13 @@ pub struct Turn<'a> {
 }
 
 impl<'a> Walker<'a> {
-    // A walker whose place is a sample.
+    /// A walker over the summary's record whose place is the sample. Its first turn gives what `next` gives there. A record, a
+    /// summary or a sample that `next` turns down is turned down here, with the same number.
     pub fn open(words: &'a [u64], summary: Summary, sample: u64) -> Result<Walker<'a>, Refusal>
-        ensures { outcome result ≡ open_of words.entry summary sample }
+        ensures opened { outcome result ≡ open_of words.entry summary sample }
+        ensures there { IfOk result (λ walker. walker ≡ walker_at words.entry summary.plan.len summary.plan.polarity summary.origin sample) }
+        ensures first { IfOk result (λ walker. turn_from walker ≡ next_of words.now summary sample) }
+        ensures admitted { IfOk result (λ walker. IsAdmitted walker) }
     {
         test_step(words, summary, sample)?;
         Ok(Walker {
@@ -55,10 +60,17 @@ impl<'a> Walker<'a> {
         Ok(edge_at(self.origin, record.next_from(position)))
     }
 
-    // A turn: the edge, and the walker one past it. With none left, and on a refusal, it is the walker handed in.
+    /// A turn gives the first edge at or after the walker's place, and the walker one past it. With no edge left it gives none, and
+    /// the walker as it was handed in; so it does with a refusal. After a turn that is answered no turn is turned down.
     pub fn turn(self) -> Turn<'a>
         ensures edge { outcome result.edge ≡ turn_of self.entry.words.now self.entry.len self.entry.polarity self.entry.origin self.entry.place }
         ensures walker { result.walker ≡ walker_after self.entry }
+        ensures first { IfOk result.edge (λ found. IsFirst self.entry found) }
+        ensures moved { IfOk result.edge (λ found. MatchOption found
+            (result.walker ≡ self.entry)
+            (λ edge. result.walker ≡ record self.entry { place = edge + 1 })) }
+        ensures kept { OnErr result.edge (result.walker ≡ self.entry) }
+        ensures goes_on { OnOk result.edge (IsAdmitted result.walker) }
     {
         let edge = self.edge();
         let place = match edge {

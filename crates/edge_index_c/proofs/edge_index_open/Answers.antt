@@ -21,5 +21,5 @@ returns c =
     (returned_as
     (mapped walker_numbers _ _ c.map.ensures.cases
     ∙ ap (λ (o : Outcome Walker). and_then o (λ w. answer (walker_numbers w)))
-    (c.open-told.ensures ∙ ap (λ (t : Summary). open_of a.words t a.sample) c.in-Some.ensures.1))
+    (c.open-told.ensures.opened ∙ ap (λ (t : Summary). open_of a.words t a.sample) c.in-Some.ensures.1))
     c.give.ensures)
