@@ -7,9 +7,9 @@ use mathlib.Core.Path.{◌≡◌, refl, sym, ap, ◌∙◌}
 use Prim.Native.Nat.{ℕ, ◌+◌, ◌-◌, ◌*◌, ◌^◌, ◌≤◌, ◌<◌}
 use native.Mathlib.Nat.{mul-le-mul}
 use native.Mathlib.Omega.{arith}
-use lib.Dec.{eqb, leb, ltb}
+use lib.Dec.{eqb, ltb}
 use lib.Pow.{pow_pos, pow_mono}
-use lib.ListN.{length, get_or}
+use lib.ListN.{length}
 use borrow.Author.Tests.{le-ltb, eqb-false}
 use Rattle.rank_sel.specs.Numbers.{ceil_div}
 use Rattle.rank_sel.specs.Outcome.{Outcome, answer, refused, refuse_if, or_refuse, Conditions, refuse_by, NoneOf, and_then}
@@ -26,15 +26,15 @@ use Rattle.spacing.specs.declared.Choice.{Choice}
 use Rattle.spacing.specs.declared.Parameters.{Parameters}
 use Rattle.spacing.proofs.Facts.{PlanFacts, plan_facts}
 use Rattle.inventory.specs.Index.{entries_of, stride_by, stride, inventory_len_of, summary_of}
-use Rattle.inventory.specs.Lanes.{lane_of}
 use Rattle.inventory.specs.declared.summary.Summary.{Summary}
 use Rattle.build_inventory.specs.Build.{fitted, size_of, build_from, build_of, check_of}
 use Rattle.build_inventory.specs.declared.Sizes.{Sizes}
 use Rattle.build_inventory.specs.Positions.{spill_len_of}
 use Rattle.read_inventory.specs.Jump.{sample_of, select_of, hint_sample, hint_of, dwell_at, dwell_of, store_of, subinventory_of, cells_of}
-use Rattle.read_inventory.specs.Read.{kind_at, span_at, shape_at, Place, start, own, over, place_at, number_at, span_too_small, mark_at, entry_of_rank, mark_number, mark_of_rank, Hint, hint_at, position_of}
+use Rattle.read_inventory.specs.Read.{mark_of_rank, Hint, hint_at, position_of}
 use Rattle.read_inventory.specs.Tests.{rank_too_large, ranks_fall}
 use Rattle.read_inventory.proofs.PartSize.{store_some, store_in, store_length}
+use Rattle.read_inventory.proofs.Ten.{ten_answer, ten_refuse, ten_or, ten_then, ten_cond, ten_rank, ten_position}
 use Rattle.select_list.specs.List.{Walk, start as begin, after, walk, falls_from, any_too_large, of_list, listed, walk_of, list_of}
 use Rattle.select_list.specs.Step.{Reached, Start, start_of, read_from, step_at_mark, step_from, step_of}
 use Rattle.rank_inventory.specs.Rank.{starts_unlawful, rank_at, rank_of}
@@ -192,61 +192,15 @@ module _ (ws : List ℕ) (len origin : ℕ) (pol : Polarity) (choice : Choice) w
   }
 
 -- ---- 10 alone
-ten_answer : {A : Type 0} (a : A) → Only10 (answer a)
-ten_answer a n e = cc
-
-ten_refuse : {A : Type 0} (b : Bool) (o : Outcome A) → Only10 o → Only10 (refuse_if b 10 o)
-ten_refuse true o h n e = cc
-ten_refuse false o h n e = h n e
-
-ten_or : {A : Type 0} (o : Option A) → Only10 (or_refuse 10 o)
-ten_or none n e = cc
-ten_or (some a) n e = ten_answer a n e
-
-ten_then : {A B : Type 0} (o : Outcome A) (go : A → Outcome B) → Only10 o → ((a : A) → Only10 (go a)) → Only10 (and_then o go)
-ten_then (answer a) go h k n e = k a n e
-ten_then (refused m) go h k n e = h n (let d : m ≡ n = cc in ap refused d)
-
-ten_number : (t : Summary) (inv sp : List ℕ) (e : ℕ) (l : Place) → Only10 (number_at t inv sp e l)
-unfolding number_at
-ten_number t inv sp e start = ten_answer _
-ten_number t inv sp e (own c j) = ten_answer _
-ten_number t inv sp e (over c j) =
-    ten_refuse (leb t.spill_len c) (answer (lane_of (shape_at t inv e).width (get_or sp c 0) j)) (ten_answer _)
-
-ten_mark : (t : Summary) (inv sp : List ℕ) (e i : ℕ) → Only10 (mark_at t inv sp e i)
-unfolding mark_at
-ten_mark t inv sp e i =
-    ten_refuse (span_too_small (kind_at t inv e) (span_at t inv e)) _
-    (ten_then (number_at t inv sp e (place_at t inv e i)) _ (ten_number t inv sp e (place_at t inv e i))
-    (λ n. ten_refuse (leb t.plan.len ((shape_at t inv e).base + n)) (answer ((shape_at t inv e).base + n)) (ten_answer _)))
-
-ten_rank : (t : Summary) (inv sp : List ℕ) (r : ℕ) → Only10 (mark_of_rank t inv sp r)
-unfolding mark_of_rank
-ten_rank t inv sp r =
-    ten_then (mark_at t inv sp (entry_of_rank t r) (mark_number t inv r)) _ (ten_mark t inv sp (entry_of_rank t r) (mark_number t inv r))
-    (λ p. ten_answer _)
-
 ten_hint : (t : Summary) (inv sp : List ℕ) (r : ℕ) → Only10 (hint_at t inv sp r)
 unfolding hint_at
 ten_hint t inv sp r = ten_then (mark_of_rank t inv sp r) _ (ten_rank t inv sp r) (λ m. ten_answer _)
 
-ten_cond : {A : Type 0} (b : Bool) (x y : Outcome A) → Only10 x → Only10 y → Only10 (cond b x y)
-ten_cond true x y h k = h
-ten_cond false x y h k = k
-
-ten_position : (ws : List ℕ) (t : Summary) (inv sp : List ℕ) (r : ℕ) → Only10 (position_of ws t inv sp r)
-unfolding position_of
-ten_position ws t inv sp r =
-    ten_then (mark_of_rank t inv sp r) _ (ten_rank t inv sp r)
-    (λ m. ten_cond m.exact _ _ (ten_answer m.at)
-    (ten_or (seek (selected t.plan.polarity ws t.plan.len) (t.plan.len - m.at) m.at m.residual)))
-
 ten_dwell : (ws : List ℕ) (t : Summary) (inv sp : List ℕ) (a b : ℕ) → Only10 (dwell_at ws t inv sp a b)
 unfolding dwell_at
 ten_dwell ws t inv sp a b =
-    ten_then (position_of ws t inv sp a) _ (ten_position ws t inv sp a)
-    (λ p. ten_then (position_of ws t inv sp b) _ (ten_position ws t inv sp b) (λ o. ten_refuse (ltb o p) (answer (o - p)) (ten_answer _)))
+    ten_then (position_of ws t inv sp a) _ (ten_position t inv sp a ws)
+    (λ p. ten_then (position_of ws t inv sp b) _ (ten_position t inv sp b ws) (λ o. ten_refuse (ltb o p) (answer (o - p)) (ten_answer _)))
 
 -- a list's step, and all of them
 module _ (ws : List ℕ) (t : Summary) (inv sp : List ℕ) where
@@ -296,7 +250,7 @@ pub readers_refuse : (ws : List ℕ) (t : Summary) (inv sp : List ℕ) → Reade
 unfolding select_of sample_of hint_of hint_sample dwell_of subinventory_of store_of rank_of list_of
 readers_refuse ws t inv sp = record {
   select = λ r. in_tests (index_order ws t inv sp ++ ((rank_too_large (N t.plan) r, 8) ∷ [])) _;
-  select_10 = λ r. ten_then (position_of ws t inv sp r) _ (ten_position ws t inv sp r) (λ p. ten_answer _);
+  select_10 = λ r. ten_then (position_of ws t inv sp r) _ (ten_position t inv sp r ws) (λ p. ten_answer _);
   hint = λ r. in_tests (index_order ws t inv sp ++ ((rank_too_large (N t.plan) r, 8) ∷ [])) _;
   hint_10 = λ r. ten_then (hint_at t inv sp r) _ (ten_hint t inv sp r) (λ h. ten_answer _);
   dwell =

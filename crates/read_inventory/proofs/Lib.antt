@@ -5,3 +5,4 @@ pub mod Answers
 pub mod Parts
 pub mod PartSize
 pub mod ReadBack
+pub mod Ten

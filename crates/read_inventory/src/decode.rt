@@ -279,7 +279,11 @@ impl<'a> Cells<'a> {
         let cell = first_cell(plan, rank >> l);
         let start = self.inventory[cell as usize];
         let SpanType::U16 = kind_of(start) else {
-            return Ok(mark_by(self.decode(rank)?));
+            // 10 is the only refusal of a decoded mark: whoever takes one apart, here and in each reader, answers it by name.
+            let Ok(decoded) = self.decode(rank) else {
+                return Err(Refusal::CellsUnlawful);
+            };
+            return Ok(mark_by(decoded));
         };
         let subrank = low_bits(rank, l as u64);
         let mark = start + quarter_at(self.inventory, cell + 1, subrank >> s);

@@ -64,7 +64,9 @@ impl Index<'_> {
         requires { rank < N self.cells.summary.plan }
         ensures { outcome result ≡ position_of self.entry.words.now self.entry.cells.summary self.entry.cells.inventory.now self.entry.cells.spill.now rank }
     {
-        let mark = self.cells.mark_of(rank)?;
+        let Ok(mark) = self.cells.mark_of(rank) else {
+            return Err(Refusal::CellsUnlawful);
+        };
         self.finish(mark)
     }
 }
@@ -80,7 +82,9 @@ pub fn select(
     ensures { outcome result ≡ select_of words.now summary inventory.now spill.now rank }
 {
     let index = test_call(words, summary, inventory, spill, rank)?;
-    let position = index.position(rank)?;
+    let Ok(position) = index.position(rank) else {
+        return Err(Refusal::CellsUnlawful);
+    };
     Ok(sample_at(index.cells.summary.origin, position))
 }
 
@@ -95,7 +99,9 @@ pub fn hint(
     ensures { outcome result ≡ hint_of words.now summary inventory.now spill.now rank }
 {
     let index = test_call(words, summary, inventory, spill, rank)?;
-    let mark = index.cells.mark_of(rank)?;
+    let Ok(mark) = index.cells.mark_of(rank) else {
+        return Err(Refusal::CellsUnlawful);
+    };
     Ok(Hint {
         mark: sample_at(index.cells.summary.origin, mark.at),
         rank: rank - mark.residual,
@@ -135,7 +141,9 @@ pub fn subinventory_part(
     let index = test_call(words, summary, inventory, spill, rank)?; // as hint does
     let cells = index.cells;
     let plan = cells.summary.plan;
-    let decoded = cells.decode(rank)?;
+    let Ok(decoded) = cells.decode(rank) else {
+        return Err(Refusal::CellsUnlawful);
+    };
     let own = decoded.head.cell + 1;
     if decoded.spilled {
         let from = cells.inventory[own as usize];
@@ -194,7 +202,11 @@ pub fn dwell(
     ensures { outcome result ≡ dwell_of words.now summary inventory.now spill.now a b }
 {
     let index = test_dwell(words, summary, inventory, spill, a, b)?;
-    let p = index.position(a)?;
-    let o = index.position(b)?;
+    let Ok(p) = index.position(a) else {
+        return Err(Refusal::CellsUnlawful);
+    };
+    let Ok(o) = index.position(b) else {
+        return Err(Refusal::CellsUnlawful);
+    };
     dwell_by(p, o)
 }

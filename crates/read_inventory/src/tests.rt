@@ -54,7 +54,7 @@ pub(crate) fn test_call<'a>(
     ensures { Tested (of_index words.now summary inventory.now spill.now ++ of_rank (N summary.plan) rank) words.now summary inventory.now spill.now result }
 {
     let index = test_index(words, summary, inventory, spill)?;
-    // The form that document 01 names for this place.
+    // A rank at or above N is turned back before any cell is read.
     let Ok(()) = test_rank(summary.plan.num, rank) else {
         return Err(Refusal::RankTooLarge);
     };

@@ -8,13 +8,14 @@ use native.Mathlib.Omega.{arith}
 use lib.Dec.{ltb}
 use borrow.Author.Tests.{lt-ltb, le-ltb, eq-eqb}
 use Rattle.std.specs.Prelude as std
-use Rattle.std.specs.Prelude.{Result, Ok, Err, IsErr, IsErrAnd}
+use Rattle.std.specs.Prelude.{Result, Ok, Err}
 use Rattle.std.specs.Int.{from_bool}
 use Rattle.std.proofs.lemmas.Bool.{cond-true, cond-false}
-use Rattle.rank_sel.specs.Outcome.{Outcome, refused, number_of, and_then}
+use Rattle.rank_sel.specs.Outcome.{Outcome, refused, and_then}
 use Rattle.rank_sel.specs.Rank.{ind}
 use Rattle.rank_sel.specs.Seek.{Sought}
 use Rattle.rank_sel.specs.declared.Refusal.{Refusal}
+use Rattle.rank_sel.specs.declared.Refusal.TheVariants.{CellsUnlawful}
 use Rattle.rank_sel.proofs.Seek.{seek_found}
 use Rattle.bit_record.specs.Record.{selected, Finds}
 use Rattle.bit_record.specs.Selects.{selects, RecordOf}
@@ -80,15 +81,9 @@ module _ (ws : List ℕ) (t : Summary) (inv sp : List ℕ) (r : ℕ) (h : std.Op
   f = selected t.plan.polarity ws t.plan.len
 
   -- a refused mark
-  pub step_none : (x : Result Advance Refusal) (e : Refusal) → IsErr x × IsErrAnd x (λ y. y ≡ e) → refused (number_of e) ≡ mark_of_rank t inv sp r
-      → Advances f r (step_of ws t inv sp (last_of h) r) x
+  pub step_none : refused 10 ≡ mark_of_rank t inv sp r → Advances f r (step_of ws t inv sp (last_of h) r) (Err CellsUnlawful)
   unfolding step_of
-  step_none (Err y) e g n = record {
-    told = ap (λ (z : Refusal). refused (number_of z)) g.1
-        ∙ ap (λ (o : Outcome Mark). and_then o (step_from f t.plan.len (last_of h) r)) n;
-    hand = tt;
-  }
-  step_none (Ok y) e g n = absurd g.1
+  step_none n = record { told = ap (λ (o : Outcome Mark). and_then o (step_from f t.plan.len (last_of h) r)) n; hand = tt }
 
   module _ (m : Mark) (w : MarkRead t inv sp r m) where
     pub step_exact : m.exact ≡ true → HandIn f r h

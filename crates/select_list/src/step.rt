@@ -99,7 +99,9 @@ pub(crate) fn step_to(index: &Index<'_>, hand: Option<Hand>, rank: u64) -> Resul
     requires { (rank < N index.now.cells.summary.plan) × HandIn (selected index.now.cells.summary.plan.polarity index.now.words.now index.now.cells.summary.plan.len) rank hand }
     ensures { Advances (selected index.now.cells.summary.plan.polarity index.now.words.now index.now.cells.summary.plan.len) rank (step_of index.now.words.now index.now.cells.summary index.now.cells.inventory.now index.now.cells.spill.now (last_of hand) rank) result }
 {
-    let mark = index.cells.mark_of(rank)?;
+    let Ok(mark) = index.cells.mark_of(rank) else {
+        return Err(Refusal::CellsUnlawful);
+    };
     if mark.exact {
         return Ok(Advance {
             position: mark.at,

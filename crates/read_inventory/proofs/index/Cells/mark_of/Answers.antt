@@ -1,13 +1,14 @@
 -- A U16 entry's numbers stand in its own cells (`quarter_in`), and its mark is the decoded one (`quarter_past`, `quarter_is`).
--- Any other entry is decoded, and `decoded_marks` says that this is its mark.
+-- Any other entry is decoded, and `decoded_marks` says that this is its mark, or that it is refused, by 10.
 use mathlib.Core.Path.{sym, ◌∙◌}
 use native.Mathlib.Omega.{arith}
 use borrow.Author.Rules.{rules}
+use Rattle.rank_sel.specs.Outcome.{refused}
 use Rattle.read_inventory.specs.Read.{entry_of_rank}
 use Rattle.read_inventory.specs.Steps.{EntryLent}
 use Rattle.read_inventory.specs.Tests.{Readable}
 use Rattle.read_inventory.proofs.Decoding.{Quartered, entry_lent, quarter_in, quarter_fits, quarter_past, quarter_is, decoded_marks}
-use Rattle.read_inventory.proofs.Passing.{refused_so}
+use Rattle.read_inventory.proofs.Ten.{ten_err, ten_decoded}
 use Rattle.read_inventory.proofs.index.Cells.mark_of.Goals.{After-low_bits-subrank, Start}
 use Rattle.read_inventory.proofs.index.Cells.mark_of.Goals as goal
 
@@ -45,13 +46,13 @@ bounds-self-cell c =
     let l = lent (goal.at.bounds-self-cell c).Start in
     search rules
 
-pub returns-in_err-decode : goal.returns-in_err-decode
-returns-in_err-decode c =
-    refused_so _ _ c.from_residual.ensures _ (decoded_marks _ _ _ _ _ c.in_err-decode.ensures)
+pub returns-in_default-decode : goal.returns-in_default-decode
+returns-in_default-decode c =
+    decoded_marks _ _ _ _ (refused 10) (ten_err (ten_decoded _ _ _ _) _ _ c.in_default-decode.is c.decode.ensures)
 
 pub returns-in_default : goal.returns-in_default
 returns-in_default c =
-    rw c.mark_by.ensures (decoded_marks _ _ _ _ _ c.in_ok-decode.ensures)
+    rw c.mark_by.ensures (decoded_marks _ _ _ _ _ c.in-Ok.ensures)
 
 pub overflow_add-cell : goal.overflow_add-cell
 overflow_add-cell c =
