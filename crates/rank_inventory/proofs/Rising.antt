@@ -1,6 +1,6 @@
 -- Laws of starts: what their rule says, the search over them, and that the last at or before a position is told by how many are.
 use mathlib.Core.Bool.{true, false}
-use mathlib.Core.Logic.{⊎_elim}
+use mathlib.Core.Logic.{⊎_elim, ◌↔◌}
 use mathlib.Core.Option.{none, some}
 use mathlib.Core.Path.{◌≡◌, refl, sym, ap}
 use Prim.Native.Nat.{ℕ, zero, suc, ◌+◌, ◌-◌, ◌≤◌, ◌<◌}
@@ -77,6 +77,9 @@ module _ (s : ℕ → ℕ) (len : ℕ) where
       low : (n : ℕ) → Rise s len (suc n) → least_start s n ≤ s n
       low zero r = omega arith
       low (suc m) r = omega (arith, r.rise m (suc m) (omega arith) (omega arith))
+
+  pub rise_exact : (n : ℕ) → (starts_rise s len n ≡ true) ↔ Rise s len n
+  rise_exact n = (rising_rise n, rise_rising n)
 
   pub rising_ordered : (n : ℕ) → starts_rise s len n ≡ true → Ordered s 0 n
   rising_ordered n e =

@@ -12,7 +12,7 @@ unfoldable pub starts_rise : (ℕ → ℕ) → ℕ → ℕ → Bool
 starts_rise s len zero = true
 starts_rise s len (suc n) = starts_rise s len n && (leb (least_start s n) (s n) && ltb (s n) len)
 
--- which is to say (rise_rising, rising_rise in proofs/Rising)
+-- which is to say (`starts_rise_strictly` in laws)
 pub record Rise (s : ℕ → ℕ) (len n : ℕ) : Type 0 where
   pub rise : (i j : ℕ) → i < j → j < n → s i < s j
   pub within : (e : ℕ) → e < n → s e < len

@@ -22,12 +22,13 @@ use Rattle.inventory.proofs.Ranks.{rank_entry}
 use Rattle.inventory.proofs.Shapes.{shaped}
 use Rattle.read_inventory.specs.Read.{tagged, kind_at, span_at, quantum_at, shape_at, Place, place_at, number_at, span_too_small, mark_at, entry_of_rank, mark_number, residual, mark_of_rank}
 use Rattle.read_inventory.specs.Steps.{head_of, EntryLent, is_over, number_of_mark, spacing_at, decoded_by, decode_of, mark_by}
-use Rattle.read_inventory.specs.Tests.{Legible, Readable}
+use Rattle.read_inventory.specs.Tests.{Legible}
 use Rattle.read_inventory.specs.declared.decode.Decoded.{Decoded}
 use Rattle.read_inventory.specs.declared.decode.Head.{Head}
 use Rattle.read_inventory.specs.declared.decode.Number.{Number}
 use Rattle.read_inventory.specs.declared.decode.Spot.TheVariants.{Own}
 use Rattle.read_inventory.proofs.Reading.{tagged_16, spot_own, head_read, kind_as, spacing_16, Spotted, own_in, number_own}
+use Rattle.read_inventory.proofs.Passing.{Readable}
 
 -- ---- an entry's cells are lent
 pub entry_held : (t : Summary) (inv sp : List ℕ) (e : ℕ) → Legible t inv sp → e < entries_of t.plan → EntryLent t inv e

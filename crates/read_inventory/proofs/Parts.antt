@@ -19,12 +19,12 @@ use Rattle.inventory.specs.declared.summary.Summary.{Summary}
 use Rattle.read_inventory.specs.Jump.{hint_of, Part, of_inventory, of_spill, part_by, store_of, or_empty, stored, PartIn}
 use Rattle.read_inventory.specs.Read.{cell_at, quantum_at, Place, start, own, over, place_at, spilled_at, entry_of_rank, mark_number, Hint}
 use Rattle.read_inventory.specs.Steps.{Countable, head_of, is_over}
-use Rattle.read_inventory.specs.Tests.{Readable}
 use Rattle.read_inventory.specs.declared.decode.Decoded.{Decoded}
 use Rattle.read_inventory.specs.declared.decode.Head.{Head}
 use Rattle.read_inventory.specs.declared.jump.CellPart.{CellPart}
 use Rattle.read_inventory.proofs.Answers.{ReadAs, over_low}
 use Rattle.read_inventory.proofs.Decoding.{entry_lent, quantum_at_low}
+use Rattle.read_inventory.proofs.Passing.{Readable}
 
 -- the entry's own cells, or its spilled ones
 part_near : (t : Summary) (inv : List ℕ) (e : ℕ) (p : Place) → is_over p ≡ false

@@ -1,7 +1,7 @@
 -- What passing the tests of a call shows, test by test, and that what they ask for passes them.
 use mathlib.Core.List.{List, ◌++◌}
 use mathlib.Core.Path.{◌≡◌, sym, ap, ◌∙◌}
-use Prim.Native.Nat.{ℕ}
+use Prim.Native.Nat.{ℕ, ◌<◌}
 use borrow.Author.Tests.{leb-false}
 use Rattle.std.specs.Prelude.{Result, Ok, Err, IsErr, IsErrAnd}
 use Rattle.rank_sel.specs.Outcome.{Outcome, answer, refused, number_of, Conditions, refuse_by, test_by, NoneOf, and_then, outcome}
@@ -15,8 +15,13 @@ use Rattle.inventory.specs.declared.summary.Summary.{Summary}
 use Rattle.inventory.proofs.Lawful.{lawful, lawful_none, cells_held, cells_none}
 use Rattle.read_inventory.specs.Jump.{hint_sample, hint_of}
 use Rattle.read_inventory.specs.Tested.{Tested}
-use Rattle.read_inventory.specs.Tests.{of_index, of_rank, Legible, Readable}
+use Rattle.read_inventory.specs.Tests.{of_index, of_rank, Legible}
 use Rattle.read_inventory.specs.declared.index.Index.{Index}
+
+-- a rank may be read: summary and cells pass, and it is below N
+pub record Readable (t : Summary) (inv sp : List ℕ) (r : ℕ) : Type 0 where
+  pub legible : Legible t inv sp
+  pub below : r < N t.plan
 
 module _ (ws : List ℕ) (t : Summary) (inv sp : List ℕ) where
   -- record, summary and cells

@@ -2,7 +2,6 @@
 use Rattle.std.specs.Prelude.{Bool, List, [], ◌∷◌, ◌++◌, ℕ, ◌^◌, ◌<◌, leb, ltb}
 use Rattle.rank_sel.specs.Outcome.{Conditions}
 use Rattle.bit_record.specs.Record.{of_record_from}
-use Rattle.spacing.specs.Spacing.{N}
 use Rattle.inventory.specs.Lawful.{of_summary, of_cells, Lawful, CellsHeld}
 use Rattle.inventory.specs.declared.summary.Summary.{Summary}
 
@@ -30,8 +29,3 @@ pub record Legible (t : Summary) (inv sp : List ℕ) : Type 0 where
   pub short : t.plan.len < 2 ^ 62
   pub lawful : Lawful t
   pub held : CellsHeld t inv sp
-
--- and of a rank: it may be read
-pub record Readable (t : Summary) (inv sp : List ℕ) (r : ℕ) : Type 0 where
-  pub legible : Legible t inv sp
-  pub below : r < N t.plan

@@ -1,9 +1,8 @@
 -- Head, spacing, number and shape are those of the rank's entry (`Headed`, `Divided`, `Numbered`); for each return a law
 -- `reading-..` says that it is what is defined.
 use native.Mathlib.Omega.{arith}
-use Rattle.read_inventory.specs.Tests.{Readable}
 use Rattle.read_inventory.proofs.Decoding.{Headed, Divided, Numbered, entry_lent, quantum_low, reading_small, reading_none, reading_past, reading_is}
-use Rattle.read_inventory.proofs.Passing.{refused_so}
+use Rattle.read_inventory.proofs.Passing.{Readable, refused_so}
 use Rattle.read_inventory.proofs.index.Cells.decode.Goals.{After-low_bits-subrank, After-open-entry, After-shape_of-base, Start}
 use Rattle.read_inventory.proofs.index.Cells.decode.Goals as goal
 

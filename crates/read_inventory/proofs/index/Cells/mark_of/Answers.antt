@@ -6,8 +6,8 @@ use borrow.Author.Rules.{rules}
 use Rattle.rank_sel.specs.Outcome.{refused}
 use Rattle.read_inventory.specs.Read.{entry_of_rank}
 use Rattle.read_inventory.specs.Steps.{EntryLent}
-use Rattle.read_inventory.specs.Tests.{Readable}
 use Rattle.read_inventory.proofs.Decoding.{Quartered, entry_lent, quarter_in, quarter_fits, quarter_past, quarter_is, decoded_marks}
+use Rattle.read_inventory.proofs.Passing.{Readable}
 use Rattle.read_inventory.proofs.Ten.{ten_err, ten_decoded}
 use Rattle.read_inventory.proofs.index.Cells.mark_of.Goals.{After-low_bits-subrank, Start}
 use Rattle.read_inventory.proofs.index.Cells.mark_of.Goals as goal
