@@ -82,9 +82,7 @@ pub fn select(
     ensures { outcome result ≡ select_of words.now summary inventory.now spill.now rank }
 {
     let index = test_call(words, summary, inventory, spill, rank)?;
-    let Ok(position) = index.position(rank) else {
-        return Err(Refusal::CellsUnlawful);
-    };
+    let position = index.position(rank)?;
     Ok(sample_at(index.cells.summary.origin, position))
 }
 
@@ -202,11 +200,7 @@ pub fn dwell(
     ensures { outcome result ≡ dwell_of words.now summary inventory.now spill.now a b }
 {
     let index = test_dwell(words, summary, inventory, spill, a, b)?;
-    let Ok(p) = index.position(a) else {
-        return Err(Refusal::CellsUnlawful);
-    };
-    let Ok(o) = index.position(b) else {
-        return Err(Refusal::CellsUnlawful);
-    };
+    let p = index.position(a)?;
+    let o = index.position(b)?;
     dwell_by(p, o)
 }

@@ -6,8 +6,7 @@ use Rattle.spacing.specs.Spacing.{N}
 use Rattle.read_inventory.specs.Jump.{dwell_at, dwell_of}
 use Rattle.read_inventory.specs.Tests.{of_index, of_ranks}
 use Rattle.read_inventory.proofs.Answers.{dwell_stops, dwell_stops_late, dwell_both}
-use Rattle.read_inventory.proofs.Passing.{tested_then}
-use Rattle.read_inventory.proofs.Ten.{ten_err, ten_position}
+use Rattle.read_inventory.proofs.Passing.{tested_then, refused_so}
 use Rattle.read_inventory.proofs.jump.dwell.Goals.{In_ok-index}
 use Rattle.read_inventory.proofs.jump.dwell.Goals as goal
 
@@ -27,19 +26,20 @@ returns-in_err-index c =
     tests_handed_on _ _ c.from_residual.ensures (of_index a.words.now a.summary a.inventory.now a.spill.now ++ of_ranks (N a.summary.plan) a.a a.b)
     c.in_err-index.ensures _
 
-pub returns-in_default : goal.returns-in_default
-returns-in_default c =
-    dwell_stops _ _ _ _ _ _ _ (ten_err (ten_position _ _ _ _ _) _ _ c.in_default.is c.position.ensures)
-    ∙ passed (goal.at.returns-in_default c).In_ok-index
+pub returns-in_err-p : goal.returns-in_err-p
+returns-in_err-p c =
+    refused_so _ _ c.from_residual-in_err-p.ensures _
+    (dwell_stops _ _ _ _ _ _ _ c.in_err-p.ensures
+    ∙ passed (goal.at.returns-in_err-p c).In_ok-index)
 
-pub returns-in_default-position : goal.returns-in_default-position
-returns-in_default-position c =
-    dwell_stops_late _ _ _ _ _ _ _ _ c.in-Ok.ensures
-    (ten_err (ten_position _ _ _ _ _) _ _ c.in_default-position.is c.position-2.ensures)
-    ∙ passed (goal.at.returns-in_default-position c).In_ok-index
+pub returns-in_err-o : goal.returns-in_err-o
+returns-in_err-o c =
+    refused_so _ _ c.from_residual-in_err-o.ensures _
+    (dwell_stops_late _ _ _ _ _ _ _ _ c.in_ok-p.ensures c.in_err-o.ensures
+    ∙ passed (goal.at.returns-in_err-o c).In_ok-index)
 
 pub returns : goal.returns
 returns c =
     c.dwell_by.ensures
-    ∙ dwell_both _ _ _ _ _ _ _ _ c.in-Ok.ensures c.in-Ok-position.ensures
+    ∙ dwell_both _ _ _ _ _ _ _ _ c.in_ok-p.ensures c.in_ok-o.ensures
     ∙ passed (goal.at.returns c).In_ok-index

@@ -7,8 +7,7 @@ use Rattle.spacing.specs.Spacing.{N}
 use Rattle.read_inventory.specs.Jump.{sample_of, select_of}
 use Rattle.read_inventory.specs.Tests.{of_index, of_rank}
 use Rattle.read_inventory.proofs.Answers.{position_low, sample_stops, sample_is}
-use Rattle.read_inventory.proofs.Passing.{tested_then}
-use Rattle.read_inventory.proofs.Ten.{ten_err, ten_position}
+use Rattle.read_inventory.proofs.Passing.{tested_then, refused_so}
 use Rattle.read_inventory.proofs.jump.select.Goals.{In_ok-index}
 use Rattle.read_inventory.proofs.jump.select.Goals as goal
 
@@ -28,21 +27,22 @@ returns-in_err-index c =
     tests_handed_on _ _ c.from_residual.ensures (of_index a.words.now a.summary a.inventory.now a.spill.now ++ of_rank (N a.summary.plan) a.rank)
     c.in_err-index.ensures _
 
-pub returns-in_default : goal.returns-in_default
-returns-in_default c =
-    sample_stops _ _ _ _ _ _ (ten_err (ten_position _ _ _ _ _) _ _ c.in_default.is c.position.ensures)
-    ∙ passed (goal.at.returns-in_default c).In_ok-index
+pub returns-in_err-position : goal.returns-in_err-position
+returns-in_err-position c =
+    refused_so _ _ c.from_residual-in_err-position.ensures _
+    (sample_stops _ _ _ _ _ _ c.in_err-position.ensures
+    ∙ passed (goal.at.returns-in_err-position c).In_ok-index)
 
 pub sample_at-requires : goal.sample_at-requires
 sample_at-requires c =
     omega (
       arith,
-      position_low _ _ _ _ _ _ (sym c.in-Ok.ensures),
+      position_low _ _ _ _ _ _ (sym c.in_ok-position.ensures),
       c.in_ok-index.index.from.numbered,
     )
 
 pub returns : goal.returns
 returns c =
     rw c.sample_at.ensures
-    (sample_is _ _ _ _ _ _ c.in-Ok.ensures
+    (sample_is _ _ _ _ _ _ c.in_ok-position.ensures
     ∙ passed (goal.at.returns c).In_ok-index)
