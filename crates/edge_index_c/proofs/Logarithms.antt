@@ -18,7 +18,7 @@ use Rattle.spacing.specs.declared.Choice.{Choice}
 use Rattle.spacing.specs.declared.Choice.TheVariants.{Default, Span, Power, Overhead, Fixed}
 use Rattle.spacing.specs.declared.Parameters.{Parameters}
 use Rattle.inventory.specs.Lawful.{unlawful, of_summary, of_cells}
-use Rattle.inventory.specs.Numbers.{cut, summary_by, summary_at}
+use Rattle.inventory.specs.Numbers.{cut, summary_at}
 use Rattle.inventory.specs.declared.summary.Summary.{Summary}
 use Rattle.build_inventory.specs.Build.{fitted, size_of, build_from, build_of, same_plan, same_summary, check_of}
 use Rattle.build_inventory.specs.Compare.{same_index}
@@ -30,14 +30,10 @@ use Rattle.select_list.specs.List.{of_list, walk_of, list_of}
 use Rattle.rank_inventory.specs.Rank.{rank_at, rank_of}
 use Rattle.step_knob.specs.Step.{edge_from, edge_before, next_of, previous_of, walker_at, open_of}
 use Rattle.index_image.specs.Image.{write_of}
-use Rattle.edge_index_c.specs.Codes.{choice_by, choice_at}
-use Rattle.edge_index_c.specs.Logarithms.{SameChoice, SameAnswers}
+use Rattle.edge_index_c.specs.Codes.{choice_at}
+use Rattle.edge_index_c.specs.Logarithms.{uncut, uncut_choice, uncut_summary, SameChoice, SameAnswers}
 
 -- ---- a choice
--- as it was handed in
-abbrev same : ℕ → ℕ
-same n = n
-
 -- a value that is not small stays so
 cut_cases : (n : ℕ) → (cut n ≡ n) ⊎ ((63 < cut n) × (63 < n))
 cut_cases n = ⊎_elim (λ (h : n < 64). inl (omega arith)) (λ (h : 64 ≤ n). inr (omega arith, omega arith)) (cases_lt n 64)
@@ -55,7 +51,7 @@ module _ (pol : Polarity) (len num : ℕ) where
 
   chosen-cut : (kind value : ℕ) (percentage : Float) (log2 : ℕ)
       → chosen_plan pol len num (rule (choice_at kind value percentage log2))
-      ≡ chosen_plan pol len num (rule (choice_by same kind value percentage log2))
+      ≡ chosen_plan pol len num (rule (uncut_choice kind value percentage log2))
   unfolding choice_at
   chosen-cut kind value percentage log2 = go (eqb kind 0) (eqb kind 1) (eqb kind 2) (eqb kind 3)
     where
@@ -64,7 +60,7 @@ module _ (pol : Polarity) (len num : ℕ) where
           cond a Default
           (cond b (Span value log2) (cond c (Power (f value) log2) (cond d (Overhead percentage log2) (Fixed (f value) log2))))
 
-      go : (a b c d : Bool) → chosen_plan pol len num (rule (by cut a b c d)) ≡ chosen_plan pol len num (rule (by same a b c d))
+      go : (a b c d : Bool) → chosen_plan pol len num (rule (by cut a b c d)) ≡ chosen_plan pol len num (rule (by uncut a b c d))
       go true b c d = refl
       go false true c d = refl
       go false false true d = power_cut value log2
@@ -73,19 +69,19 @@ module _ (pol : Polarity) (len num : ℕ) where
 
 module _ (kind value : ℕ) (percentage : Float) (log2 : ℕ) where
   plan_cut : (ws : List ℕ) (len : ℕ) (pol : Polarity)
-      → plan_of ws len pol (choice_at kind value percentage log2) ≡ plan_of ws len pol (choice_by same kind value percentage log2)
+      → plan_of ws len pol (choice_at kind value percentage log2) ≡ plan_of ws len pol (uncut_choice kind value percentage log2)
   unfolding plan_of
   plan_cut ws len pol = ap (and_then (count_of ws len pol)) (fun_ext λ num. chosen-cut pol len num kind value percentage log2)
 
   build_cut : (ws : List ℕ) (len origin : ℕ) (pol : Polarity) (cells spill : ℕ)
       → build_of ws len origin pol (choice_at kind value percentage log2) cells spill
-      ≡ build_of ws len origin pol (choice_by same kind value percentage log2) cells spill
+      ≡ build_of ws len origin pol (uncut_choice kind value percentage log2) cells spill
   unfolding build_of
   build_cut ws len origin pol cells spill =
       ap (λ (o : Outcome Parameters). and_then (refuse_by (of_record_from ws len origin) o) (λ p. build_from ws origin p cells spill))
       (plan_cut ws len pol)
 
-  pub choice_cut : SameChoice (choice_at kind value percentage log2) (choice_by same kind value percentage log2)
+  pub choice_cut : SameChoice (choice_at kind value percentage log2) (uncut_choice kind value percentage log2)
   unfolding size_of check_of
   choice_cut = record {
     plan = plan_cut;
@@ -201,7 +197,7 @@ module _ {t u : Summary} where
     write = write_alike w;
   }
 
-pub summary-cut : (s : List ℕ) → SameAnswers (summary_at s) (summary_by same s)
+pub summary-cut : (s : List ℕ) → SameAnswers (summary_at s) (uncut_summary s)
 unfolding summary_at Over
 summary-cut s = answers_alike
     (⊎_elim (λ (e : cut (get_or s 4 0) ≡ get_or s 4 0). ⊎_elim

@@ -9,6 +9,8 @@ ghost use Rattle.edge_index_c.specs.Calls.{BuiltC, ListedC, ReadC, Returned, Ret
 ghost use Rattle.inventory.specs.Numbers.{numbers_of as numbers_in, polarity_at, summary_at};
 ghost use Rattle.edge_index_c.specs.Codes.{choice_at, known, uncounted};
 
+pub mod laws;
+
 use edge_index::{CellPart, Choice, Parameters, Polarity, Refusal, Summary, Walker};
 use inventory::{SUMMARY_NUMBERS, cut, numbers_of, polarity_at, summary_at};
 
