@@ -1,2 +1,4 @@
 pub mod Cells
 pub mod Selects
+pub mod Tally
+pub mod List

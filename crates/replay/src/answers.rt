@@ -1,7 +1,12 @@
 // The library's answers to one case, held to the listed ones.
-ghost use Rattle.std.specs.Prelude.{◌≡◌};
+ghost use Rattle.std.specs.Prelude.{◌≡◌, length, unwrap_or, OnOk};
+ghost use Rattle.std.specs.Option.{option_map_or};
+ghost use Rattle.rank_sel.specs.Outcome.{number_of};
+ghost use Rattle.build_inventory.specs.Build.{BuiltAs, build_of};
 ghost use Rattle.read_inventory.specs.Jump.{select_of};
+ghost use Rattle.replay.specs.Cells.{blanks};
 ghost use Rattle.replay.specs.Selects.{is_at, selects_alike};
+ghost use Rattle.replay.specs.Tally.{NoneMeans, SameFigures};
 
 use crate::cells::{alike, blank_from, fill};
 use crate::list::{Case, Figures, Question};
@@ -50,7 +55,9 @@ fn build_blank(
     question: Question,
     inventory: &mut [u64],
     spill: &mut [u64],
-) -> Result<Summary, Refusal> {
+) -> Result<Summary, Refusal>
+    ensures { BuiltAs words.now (build_of words.now question.len question.origin question.polarity question.choice (length inventory.old) (length spill.old)) (blanks (length inventory.old)) inventory.new (blanks (length spill.old)) spill.new result }
+{
     fill(inventory);
     fill(spill);
     build(
@@ -71,7 +78,9 @@ impl<P: Print> Tally<'_, P> {
         what: &str,
         ours: Option<Refusal>,
         listed: Option<u64>,
-    ) -> io::Result<()> {
+    ) -> io::Result<()>
+        ensures { OnOk result (NoneMeans self.old.differences self.new.differences (option_map_or number_of ours 0 ≡ unwrap_or listed 0)) }
+    {
         self.compare(
             what,
             ours.map_or(0, |refusal| refusal.number()),
@@ -79,7 +88,9 @@ impl<P: Print> Tally<'_, P> {
         )
     }
 
-    fn compare_plan(&mut self, plan: Parameters, figures: Figures) -> io::Result<()> {
+    fn compare_plan(&mut self, plan: Parameters, figures: Figures) -> io::Result<()>
+        ensures { OnOk result (NoneMeans self.old.differences self.new.differences (SameFigures plan figures)) }
+    {
         let l = plan.log2_ones_per_inventory as u64;
         let m = plan.log2_words_per_subinventory as u64;
         let s = plan.log2_ones_per_sub16 as u64;
@@ -89,7 +100,9 @@ impl<P: Print> Tally<'_, P> {
         self.compare("S", s, figures.log2_ones_per_sub16)
     }
 
-    fn compare_counts(&mut self, sizes: Sizes, case: Case<'_>) -> io::Result<()> {
+    fn compare_counts(&mut self, sizes: Sizes, case: Case<'_>) -> io::Result<()>
+        ensures { OnOk result (NoneMeans self.old.differences self.new.differences ((sizes.inventory ≡ length case.entry.inventory.now) × (sizes.spill ≡ length case.entry.spill.now))) }
+    {
         self.compare(
             "inventory count",
             sizes.inventory,

@@ -1,7 +1,8 @@
 // The format of the list: oracle/src/replay.rs.
-ghost use Rattle.std.specs.Prelude.{IfSome, ◌≡◌, ◌≤◌, ◌<◌, length};
+ghost use Rattle.std.specs.Prelude.{IfNone, IfSome, IsTrue, ◌≡◌, ◌≤◌, ◌<◌, ◌↔◌, [], ◌∷◌, length};
 ghost use Rattle.std.specs.Float.{binary64};
 ghost use Rattle.std.specs.Float.Ieee.{nan_bits, of_bits};
+ghost use Rattle.replay.specs.List.{IsAnswered, IsRefused};
 
 use edge_index::{Choice, Polarity};
 use edge_index_c::asked;
@@ -61,7 +62,9 @@ fn read_refused(
     words: u64,
     list: &[u64],
 ) -> Option<(Case<'_>, &[u64])>
-    ensures { IfSome result (λ read. length read.1.now ≤ length list.now) }
+    ensures shorter { IfSome result (λ read. length read.1.now ≤ length list.now) }
+    ensures read { IfSome result (λ read. IsRefused question refusal words list.now read.0 read.1.now) }
+    ensures none { IfNone result (length list.now < words) }
 {
     let (words, rest) = list.split_at_checked(words as usize)?;
     let case = Case {
@@ -77,7 +80,8 @@ fn read_refused(
 }
 
 fn read_answered(question: Question, words: u64, list: &[u64]) -> Option<(Case<'_>, &[u64])>
-    ensures { IfSome result (λ read. length read.1.now ≤ length list.now) }
+    ensures shorter { IfSome result (λ read. length read.1.now ≤ length list.now) }
+    ensures read { IfSome result (λ read. IsAnswered question words list.now read.0 read.1.now) }
 {
     let [num, l, m, s, inventory_len, spill_len, rest @ ..] = list else {
         return None;
@@ -144,6 +148,8 @@ pub(crate) fn read_case(list: &[u64]) -> Option<(Case<'_>, &[u64])>
 }
 
 // Whether only the end mark is left.
-pub(crate) fn is_end(list: &[u64]) -> bool {
+pub(crate) fn is_end(list: &[u64]) -> bool
+    ensures { IsTrue result ↔ (list.now ≡ 18446744073709551615 ∷ []) }
+{
     list == [END].as_slice()
 }

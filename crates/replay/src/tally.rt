@@ -1,4 +1,7 @@
 // What was compared, and the lines.
+ghost use Rattle.std.specs.Prelude.{◌≡◌, ◌≢◌, OnOk};
+ghost use Rattle.replay.specs.Tally.{NoneMeans};
+
 use std::io;
 
 // So many differences have a line each; the others are only counted.
@@ -28,21 +31,29 @@ impl<'a, P: Print> Tally<'a, P> {
         }
     }
 
-    pub(crate) fn add_case(&mut self, is_refused: bool) {
+    pub(crate) fn add_case(&mut self, is_refused: bool)
+        ensures { self.new.differences ≡ self.old.differences }
+    {
         self.cases = self.cases.saturating_add(1);
         self.refused = self.refused.saturating_add(u64::from(is_refused));
     }
 
-    pub(crate) fn add_cells(&mut self, n: usize) {
+    pub(crate) fn add_cells(&mut self, n: usize)
+        ensures { self.new.differences ≡ self.old.differences }
+    {
         self.cells = self.cells.saturating_add(n as u64);
     }
 
-    pub(crate) fn add_selects(&mut self, n: usize) {
+    pub(crate) fn add_selects(&mut self, n: usize)
+        ensures { self.new.differences ≡ self.old.differences }
+    {
         self.selects = self.selects.saturating_add(n as u64);
     }
 
     // A number of the library's against the one that it has to be.
-    pub(crate) fn compare(&mut self, what: &str, ours: u64, expected: u64) -> io::Result<()> {
+    pub(crate) fn compare(&mut self, what: &str, ours: u64, expected: u64) -> io::Result<()>
+        ensures { OnOk result (NoneMeans self.old.differences self.new.differences (ours ≡ expected)) }
+    {
         self.comparisons = self.comparisons.saturating_add(1);
         if ours == expected {
             return Ok(());
@@ -56,7 +67,9 @@ impl<'a, P: Print> Tally<'a, P> {
     }
 
     // A list that ends in no end mark, or goes on in no case.
-    pub(crate) fn break_off(&mut self) -> io::Result<()> {
+    pub(crate) fn break_off(&mut self) -> io::Result<()>
+        ensures { OnOk result (self.new.differences ≢ 0) }
+    {
         println!(self.out; "the list breaks off after case {}", self.cases)?;
         self.differences = self.differences.saturating_add(1);
         Ok(())
