@@ -2,7 +2,7 @@
 ghost use Rattle.std.specs.Prelude.{IfNone, IfSome, IsTrue, ◌≡◌, ◌≤◌, ◌<◌, ◌↔◌, [], ◌∷◌, length};
 ghost use Rattle.std.specs.Float.{binary64};
 ghost use Rattle.std.specs.Float.Ieee.{nan_bits, of_bits};
-ghost use Rattle.replay.specs.List.{IsAnswered, IsRefused};
+ghost use Rattle.replay.specs.List.{IsAnswered, IsCase, IsRefused};
 
 use edge_index::{Choice, Polarity};
 use edge_index_c::asked;
@@ -111,7 +111,8 @@ fn read_answered(question: Question, words: u64, list: &[u64]) -> Option<(Case<'
 
 // The case at the start, and the list behind it; none where what stands there is no case, or is cut short.
 pub(crate) fn read_case(list: &[u64]) -> Option<(Case<'_>, &[u64])>
-    ensures { IfSome result (λ read. length read.1.now < length list.now) }
+    ensures shorter { IfSome result (λ read. length read.1.now < length list.now) }
+    ensures read { IfSome result (λ read. IsCase list.now read.0 read.1.now) }
 {
     let [
         words,
