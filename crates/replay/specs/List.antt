@@ -1,5 +1,5 @@
 -- What the list says of a case: oracle/src/replay.rs.
-use Rattle.std.specs.Prelude.{◌≡◌, ℕ, List, ◌∷◌, ◌++◌, length, get_or, drop, eqb, MatchBool, Some, None}
+use Rattle.std.specs.Prelude.{◌≡◌, ℕ, ◌-◌, ◌*◌, ◌^◌, min, List, ◌∷◌, ◌++◌, length, get_or, drop, eqb, MatchBool, Some, None}
 use Rattle.std.specs.Float.{binary64}
 use Rattle.std.specs.Float.Ieee.{of_bits}
 use Rattle.inventory.specs.Numbers.{cut, polarity_at}
@@ -29,6 +29,8 @@ pub record IsAnswered (q : Question) (w : ℕ) (list : List ℕ) (c : Case) (res
   pub refusal : c.refusal ≡ None
   pub words : length c.words.now ≡ w
   pub pairs : ℕ
+  -- two for each pair, as far as a u64 counts
+  pub selects : length c.selects.now ≡ min (pairs * 2) (2 ^ 64 - 1)
   pub numbers : list ≡ c.figures.num ∷ c.figures.log2_ones_per_inventory ∷ c.figures.log2_words_per_subinventory ∷ c.figures.log2_ones_per_sub16
       ∷ length c.inventory.now ∷ length c.spill.now ∷ (c.words.now ++ (c.inventory.now ++ (c.spill.now ++ (pairs ∷ (c.selects.now ++ rest)))))
 

@@ -33,6 +33,7 @@ returns-clause-read c =
       refusal = refl;
       words = words.3;
       pairs = c.in_ok-pairs.pairs.now;
+      selects = selects.3 ∙ c.saturating_mul.ensures;
       numbers = six _ _ _ _ c.in-len6-up.len_at_least
           (sym (whole c.args.list.now 6) ∙ joined _ _ _ _ words.1 words.2 ∙ ap (λ l. c.in_ok-words.words.now ++ l) behind_inventory) inventory.3 spill.3;
     }
