@@ -35,6 +35,7 @@ use Rattle.build_inventory.proofs.Outcomes.{Admission, inventory_counted, spill_
 use Rattle.read_inventory.specs.Read.{cell_at, shape_at, place_at, number_at, mark_at, mark_number}
 use Rattle.read_inventory.proofs.Answers.{mark_back, hint_back}
 use Rattle.read_inventory.proofs.ReadBack.{first_back, own_back, over_back}
+use Rattle.edge_index.specs.Images.{Cells}
 use Rattle.edge_index.specs.Sound.{q_of, lanes_of, mark_rank, Sound}
 use Rattle.edge_index.proofs.Promises.{held_yes, yes_checked}
 use Rattle.edge_index.proofs.Right.{shape_right, second_right}
@@ -156,3 +157,7 @@ module _ (ws : List ℕ) (len origin : ℕ) (pol : Polarity) (choice : Choice) (
       (held_yes ws len origin pol choice t (length inv) (length sp) admits inv sp s.inventory_held s.spill_held
       (rw cells_count at (placed_inventory (pos_in ws p) p inv sp w admits.room))
       (rw spill_count at (placed_spill (pos_in ws p) p inv sp w admits.spill_room)))
+
+pub sound_is_checked : (ws : List ℕ) (len origin : ℕ) (pol : Polarity) (choice : Choice) (t : Summary) (inv sp : List ℕ) → Cells inv sp
+    → Sound ws len origin pol choice t inv sp → check_of ws len origin pol choice t inv sp ≡ answer true
+sound_is_checked ws len origin pol choice t inv sp c s = sound_checked ws len origin pol choice t inv sp c.inventory c.spill s

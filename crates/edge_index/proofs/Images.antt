@@ -23,7 +23,7 @@ use Rattle.index_image.proofs.Outcomes.{Writable, writable, writable_none}
 use Rattle.index_image.proofs.RoundTrip.{image_same, summary_back, inventory_read, spill_read, image_lawful}
 use Rattle.edge_index.specs.Images.{Bytes, Cells, Written, inventory_left, spill_left, Restored, Images}
 use Rattle.edge_index.proofs.Determined.{sound_checked}
-use Rattle.edge_index.proofs.Promises.{promises}
+use Rattle.edge_index.proofs.Promises.{checked_sound}
 
 -- ---- what an answer shows, and where it comes from
 -- of writing
@@ -194,5 +194,5 @@ images = record {
   opened_sound = λ ws len origin pol choice t bs inv sp b c e.
       let o = (opens bs inv sp t e).0 in
       let l = cells_left bs b o.lawful inv sp (e ∙ ap answer (sym o.is)) c in
-      (sound_checked ws len origin pol choice t _ _ l.inventory l.spill, (promises ws len origin pol choice).checked_sound t _ _);
+      (sound_checked ws len origin pol choice t _ _ l.inventory l.spill, checked_sound ws len origin pol choice t _ _);
 }

@@ -10,3 +10,5 @@ pub mod Images
 pub mod Spans
 pub mod Steps
 pub mod Table
+pub mod Entries
+pub mod Saved

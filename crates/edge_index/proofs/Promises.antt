@@ -24,7 +24,7 @@ use Rattle.build_inventory.specs.Compare.{same_index}
 use Rattle.build_inventory.specs.Positions.{pos_in}
 use Rattle.build_inventory.proofs.Outcomes.{Admission, admission, admitted_on, origin_handed, inventory_counted, spill_counted}
 use Rattle.build_inventory.proofs.Summaries.{summary_is, summary_same}
-use Rattle.edge_index.specs.Promises.{SameCells, AsThen, Stands, build_answers, inventory_holds, spill_holds, Promises}
+use Rattle.edge_index.specs.Promises.{SameCells, AsThen, Stands, build_answers, inventory_holds, spill_holds}
 use Rattle.edge_index.specs.Sound.{Sound}
 use Rattle.edge_index.proofs.Padding.{padding_alike}
 use Rattle.edge_index.proofs.Right.{right}
@@ -136,7 +136,7 @@ module _ (ws : List ℕ) (len origin : ℕ) (pol : Polarity) (choice : Choice) w
       rw (i, s) at
       (held_sound t (length inv) (length sp) (admits t inv sp y.builds) (drop t.inventory_len inv) (drop t.spill_len sp))
 
-  other_origin : (t u : Summary) (inv sp : List ℕ) → build_answers ws len origin pol choice inv sp ≡ answer u → (t.origin ≡ origin → ⊥)
+  pub other_origin : (t u : Summary) (inv sp : List ℕ) → build_answers ws len origin pol choice inv sp ≡ answer u → (t.origin ≡ origin → ⊥)
       → check_of ws len origin pol choice t inv sp ≡ answer false
   unfolding check_of
   other_origin t u inv sp e n = go (same_summary t u) refl
@@ -145,10 +145,10 @@ module _ (ws : List ℕ) (len origin : ℕ) (pol : Polarity) (choice : Choice) w
       go true d = absurd (n (ap (λ (z : Summary). z.origin) (summary_is t u d) ∙ origin_handed ws origin u (admits u inv sp e).is))
       go false d = rw (e, d)
 
-  check_refusal : (t : Summary) (inv sp : List ℕ) (n : ℕ)
+  pub check_refuses : (t : Summary) (inv sp : List ℕ) (n : ℕ)
       → (check_of ws len origin pol choice t inv sp ≡ refused n) ↔ (build_answers ws len origin pol choice inv sp ≡ refused n)
   unfolding check_of
-  check_refusal t inv sp n = then_refused (build_answers ws len origin pol choice inv sp) _ n
+  check_refuses t inv sp n = then_refused (build_answers ws len origin pol choice inv sp) _ n
 
 -- on words that hold the same record check says the same
 stands : (ws : List ℕ) (len origin : ℕ) (pol : Polarity) (choice : Choice) (vs : List ℕ) (t : Summary) (inv sp : List ℕ)
@@ -165,22 +165,38 @@ module _ (ws : List ℕ) (len origin : ℕ) (pol : Polarity) (choice : Choice) w
   as_then t inv sp vs inv' sp' y a =
       stands ws len origin pol choice vs t inv' sp' a.words (same_yes_cells ws len origin pol choice t inv sp inv' sp' y a.inventory a.spill)
 
-  pub promises : Promises ws len origin pol choice
-  promises = record {
-    built_sound = λ t inv sp e. yes_sound ws len origin pol choice t _ _ (built_yes ws len origin pol choice t inv sp e);
-    checked_sound = λ t inv sp e. yes_sound ws len origin pol choice t inv sp (checked_yes ws len origin pol choice t inv sp e);
-    built-checked = λ t inv sp e. yes_checked ws len origin pol choice t _ _ (built_yes ws len origin pol choice t inv sp e);
-    built_stands = λ t inv sp vs inv' sp' e a. as_then t _ _ vs inv' sp' (built_yes ws len origin pol choice t inv sp e) a;
-    checked_stands = λ t inv sp vs inv' sp' e a. as_then t inv sp vs inv' sp' (checked_yes ws len origin pol choice t inv sp e) a;
-    check_exact = λ t inv sp. (
-      (λ e.
-          let y = checked_yes ws len origin pol choice t inv sp e in
-          let b = y.builds in
-          (b, rw b (begins t.inventory_len inv _ y.inventory_is), rw b (begins t.spill_len sp _ y.spill_is))),
-      (λ h. yes_checked ws len origin pol choice t inv sp (rw (h.1, h.2) at (built_yes ws len origin pol choice t inv sp h.0))),
-    );
-    check_origin = other_origin ws len origin pol choice;
-    check_refuses = λ t inv sp n. check_refusal ws len origin pol choice t inv sp n;
-    sound_right = λ t inv sp s. right ws len origin pol choice t inv sp s;
-    refused_untouched = λ inv sp n e. (rw e, rw e);
-  }
+  pub built_sound : (t : Summary) (inv sp : List ℕ) → build_answers ws len origin pol choice inv sp ≡ answer t
+      → Sound ws len origin pol choice t (inventory_holds ws len origin pol choice inv sp) (spill_holds ws len origin pol choice inv sp)
+  built_sound t inv sp e = yes_sound ws len origin pol choice t _ _ (built_yes ws len origin pol choice t inv sp e)
+
+  pub checked_sound : (t : Summary) (inv sp : List ℕ) → check_of ws len origin pol choice t inv sp ≡ answer true
+      → Sound ws len origin pol choice t inv sp
+  checked_sound t inv sp e = yes_sound ws len origin pol choice t inv sp (checked_yes ws len origin pol choice t inv sp e)
+
+  pub built_checked : (t : Summary) (inv sp : List ℕ) → build_answers ws len origin pol choice inv sp ≡ answer t
+      → check_of ws len origin pol choice t (inventory_holds ws len origin pol choice inv sp) (spill_holds ws len origin pol choice inv sp)
+      ≡ answer true
+  built_checked t inv sp e = yes_checked ws len origin pol choice t _ _ (built_yes ws len origin pol choice t inv sp e)
+
+  -- while record and cells within the counts are as they were when build answered, or check said yes
+  pub built_stands : (t : Summary) (inv sp vs inv' sp' : List ℕ) → build_answers ws len origin pol choice inv sp ≡ answer t
+      → AsThen len t ws (inventory_holds ws len origin pol choice inv sp) (spill_holds ws len origin pol choice inv sp) vs inv' sp'
+      → Stands vs len origin pol choice t inv' sp'
+  built_stands t inv sp vs inv' sp' e a = as_then t _ _ vs inv' sp' (built_yes ws len origin pol choice t inv sp e) a
+
+  pub checked_stands : (t : Summary) (inv sp vs inv' sp' : List ℕ) → check_of ws len origin pol choice t inv sp ≡ answer true
+      → AsThen len t ws inv sp vs inv' sp' → Stands vs len origin pol choice t inv' sp'
+  checked_stands t inv sp vs inv' sp' e a = as_then t inv sp vs inv' sp' (checked_yes ws len origin pol choice t inv sp e) a
+
+  -- yes is said exactly where build would answer this summary and leave these cells
+  pub check_exact : (t : Summary) (inv sp : List ℕ)
+      → (check_of ws len origin pol choice t inv sp ≡ answer true)
+      ↔ ((build_answers ws len origin pol choice inv sp ≡ answer t)
+      × (inventory_holds ws len origin pol choice inv sp ≡ inv) × (spill_holds ws len origin pol choice inv sp ≡ sp))
+  check_exact t inv sp = (
+    (λ e.
+        let y = checked_yes ws len origin pol choice t inv sp e in
+        let b = y.builds in
+        (b, rw b (begins t.inventory_len inv _ y.inventory_is), rw b (begins t.spill_len sp _ y.spill_is))),
+    (λ h. yes_checked ws len origin pol choice t inv sp (rw (h.1, h.2) at (built_yes ws len origin pol choice t inv sp h.0))),
+  )

@@ -1,5 +1,4 @@
 -- The table, by computation: each line is one value written twice.
-use mathlib.Core.Path.{refl}
 use borrow.Author.Rules.{rules}
 use lib.Ieee.{of_int, mul, div, to_unsigned}
 use Rattle.rank_sel.specs.Lists.{same_list}
@@ -28,9 +27,9 @@ use Rattle.index_image.specs.Image.{header_of, image_of, write_of, summary_in, i
 use Rattle.rank_inventory.specs.Rank.{starts_unlawful, rank_at, rank_of}
 use Rattle.rank_inventory.specs.Starts.{starts_rise}
 use Rattle.step_knob.specs.Step.{next_of, previous_of, turn_of}
-use Rattle.edge_index.specs.Table.{Agree, table, lists, origins, images, steps, limits}
+use Rattle.edge_index.specs.Table.{Agree, table, lists, origins, images, steps, limits, WorkedRecords}
 
-pub table_agrees : Agree table
+table_agrees : Agree table
 unfolding rank seek select bit select_in_word bit_at selected num_selected count_of
     clog2 first_from ilog2 capped_log2_words chosen_plan overhead_span overhead_target plan_for plan_of span_log2 of_int mul div to_unsigned
     bound entries_of entry_from entry_of inventory_len_of inventory_of inventory_to lane mark own_cells packed ranks_of spill_cells spill_of spill_start
@@ -41,14 +40,14 @@ unfolding rank seek select bit select_in_word bit_at selected num_selected count
     taken_off log2_ones_per_sub32 build_from build_of check_of fitted same_plan same_summary same_index same_list
 table_agrees = search rules
 
-pub lists_agree : Agree lists
+lists_agree : Agree lists
 unfolding rank seek bit bit_at selected entries_of inventory_len_of lane_of
     cell_at mark_of_rank kind_at mark_at mark_number number_at place_at position_of quantum_at residual sample_of select_of shape_at span_at
     start_at unlawful
     any_too_large falls_from list_of sum_over walk walk_of read_from single_words step_from step_of words_read
 lists_agree = search rules
 
-pub origins_agree : Agree origins
+origins_agree : Agree origins
 unfolding rank seek select bit bit_at selected num_selected count_of clog2 first_from ilog2 capped_log2_words chosen_plan plan_for plan_of
     bound entries_of entry_from entry_of inventory_len_of inventory_of inventory_to lane mark own_cells packed ranks_of spill_cells spill_of spill_start
     spill_to start_of stream summary_of
@@ -59,17 +58,17 @@ unfolding rank seek select bit bit_at selected num_selected count_of clog2 first
     any_too_large falls_from list_of walk walk_of read_from step_from step_of words_read
 origins_agree = search rules
 
-pub images_agree : Agree images
+images_agree : Agree images
 unfolding lane_of pack tabulate entries_of inventory_len_of unlawful same_list polarity_at summary_at numbers_of
     word_bytes bytes_of word_from words_from header_of image_of write_of summary_in inventory_in spill_in image_unlawful read_of
 images_agree = search rules
 
-pub steps_agree : Agree steps
+steps_agree : Agree steps
 unfolding rank seek bit bit_at selected entries_of inventory_len_of kind_at start_at cell_at unlawful
     last_before starts_rise starts_unlawful rank_at rank_of next_of previous_of turn_of
 steps_agree = search rules
 
-pub limits_agree : Agree limits
+limits_agree : Agree limits
 unfolding bit bit_at selected num_selected count_of clog2 first_from ilog2 capped_log2_words chosen_plan overhead_span overhead_target plan_for plan_of
     span_log2 of_int mul div to_unsigned
     bound entries_of entry_from entry_of inventory_len_of ranks_of spill_start start_of summary_of sum rank seek select unlawful select_of
@@ -77,3 +76,13 @@ unfolding bit bit_at selected num_selected count_of clog2 first_from ilog2 cappe
     lane_of pack tabulate polarity_at summary_at numbers_of word_bytes bytes_of word_from words_from header_of image_of summary_in inventory_in spill_in
     image_unlawful read_of
 limits_agree = search rules
+
+pub worked_records : WorkedRecords
+worked_records = record {
+  starred = table_agrees;
+  of_lists = lists_agree;
+  of_origins = origins_agree;
+  of_steps = steps_agree;
+  of_images = images_agree;
+  of_limits = limits_agree;
+}

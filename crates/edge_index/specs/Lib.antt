@@ -7,3 +7,4 @@ pub mod Images
 pub mod Spans
 pub mod Steps
 pub mod Table
+pub mod Entries

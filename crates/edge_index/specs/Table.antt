@@ -360,3 +360,12 @@ limits =
     ∷ line (inventory_len_of (parameters Ones 17996823486545904 17996823486545904 0 10 0)) (2 ^ 64 - 15)
     ∷ line (inventory_len_of (parameters Ones 17996823486545905 17996823486545905 0 10 0)) (2 ^ 64 + 1010)
     ∷ []
+
+-- ---- all of them
+pub record WorkedRecords : Type 0 where
+  pub starred : Agree table
+  pub of_lists : Agree lists
+  pub of_origins : Agree origins
+  pub of_steps : Agree steps
+  pub of_images : Agree images
+  pub of_limits : Agree limits

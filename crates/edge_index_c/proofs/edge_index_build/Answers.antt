@@ -24,4 +24,4 @@ returns c =
     (built_goes
     (ap₂ (λ (p : Polarity) (k : Choice). build_of a.words.now a.len a.origin p k (length a.inventory.now) (length a.spill.now))
     c.in-Some.ensures.1 c.in-Some.ensures.2)
-    c.build-told.ensures (mapped numbers_of _ _ c.map.ensures.cases) c.give.ensures)
+    c.build-told.ensures.built (mapped numbers_of _ _ c.map.ensures.cases) c.give.ensures)

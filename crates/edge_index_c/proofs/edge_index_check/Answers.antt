@@ -25,7 +25,7 @@ pub returns : goal.returns
 unfolding check_c
 returns c =
     let a = c.args in
-    let told = c.check-told.ensures
+    let told = c.check-told.ensures.checked
     ∙ ap₂
     (λ (p : Polarity) (k : Choice). check_of a.words.now a.len a.origin p k c.in-Some-read.summary a.inventory.now
     a.spill.now)

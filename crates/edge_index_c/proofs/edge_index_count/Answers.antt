@@ -16,5 +16,5 @@ unfolding count_c
 returns c =
     let a = c.args in
     rw (le-ltb _ _ c.if-polarity-gt1.false)
-    (returned_as (c.count.ensures ∙ ap (count_of a.words.now a.len) c.polarity_at.ensures)
+    (returned_as (c.count.ensures.counted ∙ ap (count_of a.words.now a.len) c.polarity_at.ensures)
     c.give.ensures)

@@ -17,6 +17,6 @@ returns c =
     let a = c.args in
     rw (c.in-Some.ensures.0)
     (returned_as
-    (c.dwell.ensures ∙ ap (λ (t : Summary). dwell_of a.words.now t a.inventory.now a.spill.now a.a a.b)
+    (c.dwell.ensures.reads ∙ ap (λ (t : Summary). dwell_of a.words.now t a.inventory.now a.spill.now a.a a.b)
     c.in-Some.ensures.1)
     c.give.ensures)

@@ -18,7 +18,7 @@ returns-in-Ok c =
     let a = c.args in
     rw (c.in-Some.ensures.0)
     (returned_yes
-    (sym (ap outcome c.in-Ok.is) ∙ c.hint.ensures
+    (sym (ap outcome c.in-Ok.is) ∙ c.hint.ensures.reads
     ∙ ap (λ (t : Summary). hint_of a.words.now t a.inventory.now a.spill.now a.rank) c.in-Some.ensures.1)
     refl)
 
@@ -28,6 +28,6 @@ returns-in-Err c =
     let a = c.args in
     rw (c.in-Some.ensures.0)
     (returned_no
-    (sym (ap outcome c.in-Err.is) ∙ c.hint.ensures
+    (sym (ap outcome c.in-Err.is) ∙ c.hint.ensures.reads
     ∙ ap (λ (t : Summary). hint_of a.words.now t a.inventory.now a.spill.now a.rank) c.in-Some.ensures.1)
     c.status.ensures)

@@ -17,5 +17,5 @@ returns c =
     let a = c.args in
     rw (c.in-Some.ensures.0)
     (returned_edge
-    (c.next.ensures ∙ ap (λ (t : Summary). next_of a.words.now t a.sample) c.in-Some.ensures.1)
+    (c.next.ensures.steps ∙ ap (λ (t : Summary). next_of a.words.now t a.sample) c.in-Some.ensures.1)
     c.give_edge.ensures)

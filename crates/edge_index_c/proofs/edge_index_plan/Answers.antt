@@ -22,5 +22,5 @@ returns c =
     (returned_as
     (mapped (λ p. numbers_of (uncounted p)) _ _ c.map.ensures.cases
     ∙ ap (λ (o : Outcome Parameters). and_then o (λ p. answer (numbers_of (uncounted p))))
-    (c.plan-told.ensures ∙ ap₂ (plan_of a.words.now a.len) c.in-Some.ensures.1 c.in-Some.ensures.2))
+    (c.plan-told.ensures.planned ∙ ap₂ (plan_of a.words.now a.len) c.in-Some.ensures.1 c.in-Some.ensures.2))
     c.give.ensures)

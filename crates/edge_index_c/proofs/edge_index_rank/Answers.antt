@@ -17,5 +17,5 @@ returns c =
     let a = c.args in
     rw (c.in-Some.ensures.0)
     (returned_as
-    (c.rank.ensures ∙ ap (λ (t : Summary). rank_of a.words.now t a.inventory.now a.spill.now a.sample) c.in-Some.ensures.1)
+    (c.rank.ensures.reads ∙ ap (λ (t : Summary). rank_of a.words.now t a.inventory.now a.spill.now a.sample) c.in-Some.ensures.1)
     c.give.ensures)

@@ -17,6 +17,6 @@ returns c =
     let a = c.args in
     rw (c.in-Some.ensures.0)
     (returned_as
-    (c.select.ensures ∙ ap (λ (t : Summary). select_of a.words.now t a.inventory.now a.spill.now a.rank)
+    (c.select.ensures.reads ∙ ap (λ (t : Summary). select_of a.words.now t a.inventory.now a.spill.now a.rank)
     c.in-Some.ensures.1)
     c.give.ensures)

@@ -17,7 +17,7 @@ returns-in-Ok c =
     let a = c.args in
     rw (c.in-Some.ensures.0)
     (returned_yes
-    (sym (ap outcome c.in-Ok.is) ∙ c.size.ensures
+    (sym (ap outcome c.in-Ok.is) ∙ c.size.ensures.sized
     ∙ ap₂ (size_of a.words.now a.len) c.in-Some.ensures.1 c.in-Some.ensures.2)
     refl)
 
@@ -27,6 +27,6 @@ returns-in-Err c =
     let a = c.args in
     rw (c.in-Some.ensures.0)
     (returned_no
-    (sym (ap outcome c.in-Err.is) ∙ c.size.ensures
+    (sym (ap outcome c.in-Err.is) ∙ c.size.ensures.sized
     ∙ ap₂ (size_of a.words.now a.len) c.in-Some.ensures.1 c.in-Some.ensures.2)
     c.status.ensures)

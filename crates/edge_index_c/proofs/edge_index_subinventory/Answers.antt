@@ -23,7 +23,7 @@ module _ (c : After-subinventory_part) where
       let a = c.args in
       rw (c.in-Some.ensures.0)
       (ap (λ (o : Outcome Part). and_then o (λ p. answer (part_numbers p)))
-      (c.subinventory_part.ensures.0
+      (c.subinventory_part.ensures.reads
       ∙ ap (λ (t : Summary). store_of a.words.now t a.inventory.now a.spill.now a.rank) c.in-Some.ensures.1))
 
 pub returns-in_default : goal.returns-in_default

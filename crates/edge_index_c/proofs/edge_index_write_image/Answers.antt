@@ -20,6 +20,6 @@ returns c =
     let e = ap (λ (t : Summary). write_of t a.inventory.now a.spill.now (length a.bytes.now)) c.in-Some.ensures.1 in
     rw (c.in-Some.ensures.0)
     (record {
-      returned = returned_as (c.write_image-told.ensures.told ∙ ap length_of e) c.give.ensures;
-      image = c.write_image-told.ensures.bytes_are ∙ ap (λ o. bytes_after o a.bytes.now) e;
+      returned = returned_as (c.write_image-told.ensures.written.told ∙ ap length_of e) c.give.ensures;
+      image = c.write_image-told.ensures.written.bytes_are ∙ ap (λ o. bytes_after o a.bytes.now) e;
     })

@@ -1,0 +1,45 @@
+-- What the entries promise, in the words of one call.
+use Rattle.std.specs.Prelude.{List, ◌↔◌, ◌≡◌, ℕ, ◌+◌, ◌/◌, ◌^◌, ◌≤◌, ◌<◌}
+use Rattle.rank_sel.specs.Outcome.{answer, refused}
+use Rattle.bit_record.specs.Record.{bit_of}
+use Rattle.bit_record.specs.declared.Polarity.{Polarity}
+use Rattle.spacing.specs.declared.Choice.{Choice}
+use Rattle.inventory.specs.declared.summary.Summary.{Summary}
+use Rattle.build_inventory.specs.Build.{build_of}
+use Rattle.build_inventory.specs.declared.Sizes.{Sizes}
+use Rattle.read_inventory.specs.Read.{Hint, entry_of_rank, subrank}
+use Rattle.edge_index.specs.Sound.{Bit, Sound, q_of, mark_rank}
+
+-- ---- a record and a choice
+-- n counts the record's bits: the ranks below n are exactly those that have one
+abbrev pub Counts : List ℕ → ℕ → Polarity → ℕ → Type 0
+Counts ws len pol n = (r : ℕ) → (r < n) ↔ ((p : ℕ) × Bit ws len pol r p)
+
+-- these cell counts are what builds of this record and choice take, from whatever origin its positions have sample numbers: with as
+-- many a build answers, and with fewer it is 6 or 7
+pub record Suffices (ws : List ℕ) (len : ℕ) (pol : Polarity) (choice : Choice) (s : Sizes) : Type 0 where
+  pub enough : (origin cells spill : ℕ) → origin + len < 2 ^ 62 → s.inventory ≤ cells → s.spill ≤ spill
+      → (t : Summary) × (build_of ws len origin pol choice cells spill ≡ answer t) × (t.inventory_len ≡ s.inventory) × (t.spill_len ≡ s.spill)
+  pub six : (origin cells spill : ℕ) → origin + len < 2 ^ 62 → cells < s.inventory → build_of ws len origin pol choice cells spill ≡ refused 6
+  pub seven : (origin cells spill : ℕ) → origin + len < 2 ^ 62 → s.inventory ≤ cells → spill < s.spill
+      → build_of ws len origin pol choice cells spill ≡ refused 7
+
+-- ---- an index
+-- summary and cells are a sound index of these words, by whatever choice: its len, origin and polarity are the summary's
+pub record IsSound (ws : List ℕ) (t : Summary) (inv sp : List ℕ) : Type 0 where
+  pub choice : Choice
+  pub sound : Sound ws t.plan.len t.origin t.plan.polarity choice t inv sp
+
+-- position p is the bit of rank r in the summary's record
+abbrev pub IsBit : List ℕ → Summary → ℕ → ℕ → Type 0
+IsBit ws t r p = Bit ws t.plan.len t.plan.polarity r p
+
+-- the rank of the mark from which a jump to rank r starts: that of r's place in its entry
+abbrev pub mark_of : List ℕ → Summary → ℕ → ℕ
+mark_of ws t r =
+    mark_rank (bit_of ws t.plan.len t.plan.polarity) t.plan (entry_of_rank t r)
+    (subrank t r / 2 ^ q_of (bit_of ws t.plan.len t.plan.polarity) t.plan (entry_of_rank t r))
+
+-- a hint at position p, of so high a rank
+abbrev pub hint_at_bit : Summary → ℕ → ℕ → Hint
+hint_at_bit t p r = record { mark = t.origin + p; rank = r }
