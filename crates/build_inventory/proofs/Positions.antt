@@ -21,7 +21,11 @@ use Rattle.inventory.proofs.Marks.{Streamable, rising, entry_streamable, first_i
 use Rattle.build_inventory.specs.Placed.{bits_at, pos_at}
 use Rattle.build_inventory.specs.declared.planned.Placed.{Placed}
 use Rattle.build_inventory.specs.declared.planned.Planned.{Planned}
-use Rattle.build_inventory.specs.Positions.{pos_in, seek_or_end}
+use Rattle.build_inventory.specs.Positions.{or_end, pos_in}
+
+-- k selected bits on from a position
+abbrev seek_or_end : List ℕ → Parameters → ℕ → ℕ → ℕ
+seek_or_end ws p from k = or_end p (seek (selected p.polarity ws p.len) (p.len - from) from k)
 
 module _ (ws : List ℕ) (p : Parameters) (h : PlanOf ws p) where
   -- what the record selects

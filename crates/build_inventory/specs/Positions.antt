@@ -1,8 +1,7 @@
 -- The index of a record: the words come in by what they select alone.
-use Rattle.std.specs.Prelude.{List, ℕ, ◌-◌, max}
+use Rattle.std.specs.Prelude.{List, ℕ, max}
 use Rattle.std.proofs.Math.Option.{Option, get_or}
-use Rattle.rank_sel.specs.Seek.{seek}
-use Rattle.bit_record.specs.Record.{selected, bit_of}
+use Rattle.bit_record.specs.Record.{bit_of}
 use Rattle.spacing.specs.declared.Parameters.{Parameters}
 use Rattle.inventory.specs.Index.{entries_of, spill_start}
 
@@ -13,10 +12,6 @@ pos_in ws p = bit_of ws p.len p.polarity
 -- past the last selected bit, the end of the last span
 abbrev pub or_end : Parameters → Option ℕ → ℕ
 or_end p place = get_or place (max 1 p.len)
-
--- k selected bits on from a position
-abbrev pub seek_or_end : List ℕ → Parameters → ℕ → ℕ → ℕ
-seek_or_end ws p from k = or_end p (seek (selected p.polarity ws p.len) (p.len - from) from k)
 
 -- how many cells the index spills
 abbrev pub spill_len_of : List ℕ → Parameters → ℕ
