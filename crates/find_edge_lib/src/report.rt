@@ -1,4 +1,7 @@
 // Every line that the program writes. A line goes where the caller says.
+ghost use Rattle.std.specs.Prelude.{◌≡◌};
+ghost use Rattle.find_edge_lib.specs.declared.report.Stop.TheVariants.{Fault as FaultStop, Io, Refused};
+
 use crate::arguments::MOST_EDGES;
 use edge_index::{MAX_LOG2_WORDS_PER_SUBINVENTORY, Parameters, Polarity, Refusal};
 use std::{fmt, io};
@@ -199,18 +202,24 @@ pub enum Stop<'a> {
 }
 
 impl<'a> From<Fault> for Stop<'a> {
+    ghost from_gives = { λ fault stop. stop ≡ FaultStop fault };
+
     fn from(fault: Fault) -> Stop<'a> {
         Stop::Fault(fault)
     }
 }
 
 impl<'a> From<Refusal> for Stop<'a> {
+    ghost from_gives = { λ refusal stop. stop ≡ Refused refusal };
+
     fn from(refusal: Refusal) -> Stop<'a> {
         Stop::Refused(refusal)
     }
 }
 
 impl<'a> From<io::Error> for Stop<'a> {
+    ghost from_gives = { λ error stop. stop ≡ Io error };
+
     fn from(error: io::Error) -> Stop<'a> {
         Stop::Io(error)
     }
