@@ -116,3 +116,10 @@ pub record SameRecord (len : ℕ) (ws vs : List ℕ) : Type 0 where
 abbrev pub complemented : Polarity → ℕ → ℕ
 complemented Ones w = w
 complemented Zeros w = (2 ^ 64 - 1) - w
+
+-- records that are the same select the same, and count the same
+abbrev pub SameSelected : Type 0
+SameSelected = (len : ℕ) (ws vs : List ℕ) (pol : Polarity) → SameRecord len ws vs → selected pol ws len ≡ selected pol vs len
+
+abbrev pub SameCount : Type 0
+SameCount = (len : ℕ) (ws vs : List ℕ) (pol : Polarity) → SameRecord len ws vs → count_of ws len pol ≡ count_of vs len pol

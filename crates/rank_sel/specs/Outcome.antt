@@ -1,5 +1,5 @@
 -- What a call answers: values, or the number of one refusal. Each answer enum has a definition that reads it as an Outcome.
-use Rattle.std.specs.Prelude.{Bool, true, false, ◌||◌, List, [], ◌∷◌, ◌≡◌, ℕ, Result, Ok, Err}
+use Rattle.std.specs.Prelude.{Bool, true, false, ◌||◌, List, [], ◌∷◌, ◌↔◌, ◌≡◌, ℕ, Result, Ok, Err}
 use Rattle.std.proofs.Math.Option.{Option, none, some}
 use Rattle.rank_sel.specs.declared.Refusal.{Refusal}
 use Rattle.rank_sel.specs.declared.Refusal.TheVariants.{LenTooLarge, TooFewWords, OnesPerInventoryTooLarge, WordsPerSubinventoryTooLarge, OverheadNotPositive, InventoryTooShort, SpillTooShort, RankTooLarge, SummaryUnlawful, CellsUnlawful, RanksFall, ListFalls, TooFewPlaces, OriginTooLarge, ImageUnlawful, PlaceTooShort, SampleOutside}
@@ -60,6 +60,10 @@ any_of (c ∷ cs) = c.0 || any_of cs
 abbrev pub NoneOf : Conditions → Type 0
 NoneOf [] = Unit {0}
 NoneOf (c ∷ cs) = (c.0 ≡ false) × NoneOf cs
+
+-- tests in their order let a call through exactly where none of their conditions holds
+abbrev pub TestsPass : Type 0
+TestsPass = (cs : Conditions) → (test_by cs ≡ answer tt) ↔ NoneOf cs
 
 -- number n where there is nothing, else what there is
 abbrev pub or_refuse : {A : Type 0} → ℕ → Option A → Outcome A

@@ -1,7 +1,7 @@
 // What the words of specs/ are held to, each as the contract of a function with no parameters and nothing to do: the law has to be
 // proved for it to be built.
-ghost use Rattle.std.specs.Prelude.{Bool, ℕ, ◌≡◌, ◌↔◌};
-ghost use Rattle.rank_sel.specs.Outcome.{Conditions, NoneOf, answer, test_by};
+ghost use Rattle.std.specs.Prelude.{Bool, ℕ};
+ghost use Rattle.rank_sel.specs.Outcome.{TestsPass};
 ghost use Rattle.rank_sel.specs.Seek.{Exact};
 ghost use Rattle.rank_sel.specs.Step.{LastExact, NextExact};
 
@@ -26,5 +26,5 @@ pub fn next_from_is_exact()
 /// Tests in their order let a call through exactly where none of their conditions holds.
 #[tactic(auto, using(crate::proofs::Outcome::through_where_none))]
 pub fn tests_pass_where_none_holds()
-    ensures { (cs : Conditions) → (test_by cs ≡ answer tt) ↔ NoneOf cs }
+    ensures { TestsPass }
 {}

@@ -9,8 +9,9 @@ use Prim.Native.Nat.{ℕ, zero, suc, ◌+◌, ◌-◌, ◌^◌, ◌≤◌, ◌<�
 use native.Mathlib.Omega.{arith}
 use lib.ListN.{length, get_or}
 use borrow.Author.Tests.{le-ltb}
+use Rattle.std.specs.Borrow.{Bor}
 use Rattle.std.specs.Prelude as std
-use Rattle.rank_sel.specs.Outcome.{Outcome, answer, refused, outcome, NoneOf}
+use Rattle.rank_sel.specs.Outcome.{Outcome, answer, refused, outcome, refuse_by, refuse_if, Conditions, NoneOf}
 use Rattle.rank_sel.specs.declared.Refusal.{Refusal}
 use Rattle.rank_sel.specs.Step.{last_before, next_from, Last, Next}
 use Rattle.rank_sel.proofs.Outcome.{answer_is, none_join, none_split, passed_all, passing}
@@ -21,7 +22,7 @@ use Rattle.bit_record.specs.declared.Polarity.{Polarity}
 use Rattle.bit_record.proofs.Counted.{admitted_from, admitted_from_none}
 use Rattle.bit_record.proofs.Selected.{selected_lt}
 use Rattle.inventory.specs.declared.summary.Summary.{Summary}
-use Rattle.step_knob.specs.Step.{edge_at, edge_before, edge_from, next_of, of_step, of_turn, place_after, previous_of, turn_of, walker_after}
+use Rattle.step_knob.specs.Step.{edge_at, edge_before, edge_from, next_of, of_step, of_turn, open_of, place_after, previous_of, turn_of, walker_after}
 use Rattle.step_knob.specs.Walk.{Edge, FirstEdge, FirstExact, IsAdmitted, IsFirst, LastEdge, LastExact, ListsEdges, WalkExact, Walks, turn_from}
 use Rattle.step_knob.specs.declared.walker.Walker.{Walker}
 
@@ -270,3 +271,25 @@ turned_on w v (std.Ok found) told after =
     let h = turn_passed w.words.now w.len w.polarity w.origin w.place found (sym told) in
     subst IsAdmitted (sym after) (turn_stays w.words.now w.len w.polarity w.origin w.place h)
 turned_on w v (std.Err n) told after = tt
+
+-- ---- what is turned down
+-- tests that stop one answer stop another, by the same number
+stopped_alike : {A B : Type 0} (cs : Conditions) (a : A) (b : B) (n : ℕ) → refuse_by cs (answer a) ≡ refused n
+    → refuse_by cs (answer b) ≡ refused n
+stopped_alike [] a b n e = cc
+stopped_alike {A} {B} (c ∷ cs) a b n e = go (stopped_alike cs a b n) c.0 e
+  where
+    go : (refuse_by cs (answer a) ≡ refused n → refuse_by cs (answer b) ≡ refused n) → (t : Bool)
+        → refuse_if t c.1 (refuse_by cs (answer a)) ≡ refused n → refuse_if t c.1 (refuse_by cs (answer b)) ≡ refused n
+    go ih true e = let d : c.1 ≡ n = cc in ap refused d
+    go ih false e = ih e
+
+-- a walker is turned down exactly where next is
+pub open_refuses : (words : Bor (List ℕ)) (t : Summary) (x : ℕ) (o : Outcome Walker) → o ≡ open_of words t x → (n : ℕ)
+    → (o ≡ refused n) ↔ (next_of words.now t x ≡ refused n)
+unfolding open_of next_of
+open_refuses words t x o e n =
+    let cs = of_step words.now t x in (
+      (λ h. stopped_alike cs _ _ n (sym e ∙ h)),
+      (λ h. e ∙ stopped_alike cs _ _ n h),
+    )

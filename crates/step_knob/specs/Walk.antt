@@ -63,3 +63,8 @@ IsAdmitted w = NoneOf (of_turn w.words.now w.len w.origin w.place)
 -- this is the first edge from its place on, or none is left there
 abbrev pub IsFirst : Walker → std.Option ℕ → Type 0
 IsFirst w found = FirstExact w.words.now w.len w.polarity w.origin w.place (answer found)
+
+-- from any walker that is not turned down, turns list the edges from its place on
+abbrev pub TurnsListTheEdges : Type 0
+TurnsListTheEdges = (ws : List ℕ) (len : ℕ) (pol : Polarity) (origin place : ℕ) → NoneOf (of_turn ws len origin place)
+    → WalkExact ws len pol origin place

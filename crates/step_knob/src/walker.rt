@@ -1,6 +1,6 @@
 // The walker.
-ghost use Rattle.std.specs.Prelude.{◌≡◌, ◌+◌, IfOk, OnErr, OnOk, MatchOption};
-ghost use Rattle.rank_sel.specs.Outcome.{outcome};
+ghost use Rattle.std.specs.Prelude.{ℕ, ◌≡◌, ◌↔◌, ◌+◌, IfOk, OnErr, OnOk, MatchOption};
+ghost use Rattle.rank_sel.specs.Outcome.{outcome, refused};
 ghost use Rattle.step_knob.specs.Step.{next_of, open_of, turn_of, walker_after, walker_at};
 ghost use Rattle.step_knob.specs.Walk.{IsAdmitted, IsFirst, turn_from};
 
@@ -34,6 +34,7 @@ impl<'a> Walker<'a> {
         ensures there { IfOk result (λ walker. walker ≡ walker_at words.entry summary.plan.len summary.plan.polarity summary.origin sample) }
         ensures first { IfOk result (λ walker. turn_from walker ≡ next_of words.now summary sample) }
         ensures admitted { IfOk result (λ walker. IsAdmitted walker) }
+        ensures refuses { (n : ℕ) → (outcome result ≡ refused n) ↔ (next_of words.now summary sample ≡ refused n) }
     {
         test_step(words, summary, sample)?;
         Ok(Walker {
