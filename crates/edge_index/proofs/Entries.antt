@@ -2,22 +2,28 @@
 use mathlib.Core.Bool.{Bool, true, false}
 use mathlib.Core.List.{List, [], ◌∷◌}
 use mathlib.Core.Logic.{◌↔◌, ⊎_elim}
+use mathlib.Core.Option.{Option as Maybe, none, some}
 use mathlib.Core.Path.{◌≡◌, refl, sym, ap, ◌∙◌, subst}
 use Prim.Native.Nat.{ℕ, ◌+◌, ◌-◌, ◌*◌, ◌^◌, ◌≤◌, ◌<◌}
 use native.Mathlib.Nat.{div-mul-le_self, div-add-mod'}
 use native.Mathlib.Omega.{arith}
+use lib.Count.{ones}
 use lib.ListN.{length, get_or, drop}
 use borrow.Author.Tests.{le-ltb, lt-ltb}
 use Rattle.std.specs.Prelude.{Option, Some, None, Result, Ok, Err, IfOk, max}
 use Rattle.std.proofs.lemmas.Bool.{cases_lt}
-use Rattle.rank_sel.specs.Outcome.{Outcome, answer, refused, outcome, number_of}
+use Rattle.rank_sel.specs.Outcome.{Outcome, answer, refused, outcome, number_of, or_refuse}
 use Rattle.rank_sel.specs.Rank.{rank}
-use Rattle.rank_sel.specs.Seek.{select}
+use Rattle.rank_sel.specs.Seek.{seek, select}
 use Rattle.rank_sel.specs.declared.Refusal.{Refusal}
 use Rattle.rank_sel.specs.declared.Refusal.TheVariants.{LenTooLarge, TooFewWords, OnesPerInventoryTooLarge, WordsPerSubinventoryTooLarge, OverheadNotPositive, InventoryTooShort, SpillTooShort, RankTooLarge, SummaryUnlawful, CellsUnlawful, RanksFall, ListFalls, TooFewPlaces, OriginTooLarge, ImageUnlawful, PlaceTooShort, SampleOutside}
-use Rattle.rank_sel.proofs.Outcome.{passed_all, passing, then_answer, then_refused}
-use Rattle.rank_sel.proofs.Rank.{rank_lt}
+use Rattle.rank_sel.proofs.Outcome.{answer_is, passed_all, passing, then_answer, then_refused}
+use Rattle.rank_sel.proofs.Rank.{rank-zero, rank_lt}
+use Rattle.rank_sel.proofs.Seek.{seek_found}
 use Rattle.rank_sel.proofs.Select.{select-rank, select_below, select_sought}
+use Rattle.select_in_word.specs.Bit.{bit}
+use Rattle.select_in_word.specs.Select.{one_at, one_of, select_in_word}
+use Rattle.select_in_word.specs.declared.One.{One}
 use Rattle.bit_record.specs.Record.{AdmittedFrom, bit_of, count_of, num_selected, of_record_from, selected, sample_outside}
 use Rattle.bit_record.specs.declared.Polarity.{Polarity}
 use Rattle.bit_record.proofs.Counted.{admitted_from_none, counted}
@@ -41,12 +47,12 @@ use Rattle.rank_inventory.specs.Rank.{rank_of}
 use Rattle.step_knob.specs.Step.{next_of, of_step, previous_of}
 use Rattle.step_knob.specs.Walk.{FirstExact, LastExact}
 use Rattle.step_knob.proofs.Walk.{next_gives, previous_gives}
-use Rattle.edge_index.specs.Entries.{Counts, IsBit, IsSound, Suffices, mark_of, hint_at_bit}
+use Rattle.edge_index.specs.Entries.{Counts, IsBit, IsOneOf, IsSound, Suffices, mark_of, hint_at_bit}
 use Rattle.edge_index.specs.Refusals.{MakersRefuse, Never}
 use Rattle.edge_index.specs.Right.{Answerable, ListRight, RankRight, Right, Within}
 use Rattle.edge_index.specs.Sound.{Sound, q_of}
 use Rattle.edge_index.proofs.Promises.{built_sound, check_exact as checked_exactly, check_refuses as checked_refuses, checked_sound}
-use Rattle.edge_index.proofs.Refusals.{makers_refuse, readers_refuse}
+use Rattle.edge_index.proofs.Refusals.{in_word_refuses, makers_refuse, readers_refuse}
 use Rattle.edge_index.proofs.Right.{right}
 
 -- ---- what an outcome says of the result itself
@@ -200,6 +206,11 @@ module _ (ws : List ℕ) (t : Summary) (inv sp : List ℕ) (r : ℕ) where
   unfolding subinventory_of
   part_right x e s l = rw e (store_right s l)
 
+  pub part_refuses : (x : Result CellPart Refusal) → stored x ≡ store_of ws t inv sp r → (n : ℕ)
+      → (stored x ≡ refused n) ↔ (hint_of ws t inv sp r ≡ refused n)
+  unfolding store_of
+  part_refuses x e n = rw e (then_refused (hint_of ws t inv sp r) _ n)
+
   pub part_past : (x : Result CellPart Refusal) → stored x ≡ store_of ws t inv sp r → IsSound ws t inv sp → N t.plan ≤ r
       → x ≡ Err RankTooLarge
   unfolding store_of
@@ -222,6 +233,9 @@ module _ (ws : List ℕ) (t : Summary) (inv sp ranks places : List ℕ) where
 
       pub list_right : (i : ℕ) → i < length ranks → (p : ℕ) × (get_or left i 0 ≡ t.origin + p) × IsBit ws t (get_or ranks i 0) p
       list_right i l = let b = (f s a).2.bits i l in (b.0, ap (λ (z : List ℕ). get_or z i 0) is_left ∙ b.1, b.2)
+
+      pub list_jumps : (i : ℕ) → i < length ranks → select_of ws t inv sp (get_or ranks i 0) ≡ answer (get_or left i 0)
+      list_jumps i l = (f s a).2.jumps i l ∙ ap (λ (z : List ℕ). answer (get_or z i 0)) (sym is_left)
 
       pub list_rest : drop (length ranks) left ≡ drop (length ranks) places
       list_rest = ap (drop (length ranks)) is_left ∙ (f s a).2.past
@@ -256,6 +270,9 @@ module _ (ws : List ℕ) (t : Summary) (inv sp : List ℕ) (y : ℕ) (x : Result
   module _ (s : IsSound ws t inv sp) where
     abbrev ranks : RankRight ws t.plan.len t.origin t.plan.polarity t inv sp
     ranks = (reads ws t inv sp s).ranks
+
+    pub rank_at_the_end : y ≡ t.origin + t.plan.len → x ≡ Ok (N t.plan)
+    rank_at_the_end h = is_ok x (N t.plan) (e ∙ ap (rank_of ws t inv sp) h ∙ ranks.end)
 
     pub rank_jumped : (r : ℕ) → select_of ws t inv sp r ≡ answer y → x ≡ Ok r
     rank_jumped r h = is_ok x r (e ∙ ranks.jumped r y h)
@@ -375,3 +392,29 @@ module _ (ws : List ℕ) (len : ℕ) (pol : Polarity) (choice : Choice) where
       let g = fitting a.2 in
       sufficient a.0 s a.1 g.inventory g.spill
   size_suffices (Err n) e = tt
+
+-- ---- a word
+module _ (w r : ℕ) where
+  pub in_word_right : (x : Result One Refusal) → outcome x ≡ select_in_word w r → IfOk x (λ o. IsOneOf w r o)
+  unfolding select_in_word
+  in_word_right (Ok o) e = go (seek (bit w) 64 0 r) refl e
+    where
+      go : (p : Maybe ℕ) → seek (bit w) 64 0 r ≡ p → answer o ≡ or_refuse 8 (one_of w p) → IsOneOf w r o
+      go (some p) h d =
+          let is : o ≡ one_at w p = answer_is d in
+          let s = seek_found (bit w) 64 0 r p h in
+          subst (IsOneOf w r) (sym is) record {
+            low = omega (arith, s.high);
+            here = s.here;
+            below = omega (arith, s.before, rank-zero (bit w));
+            above = refl;
+          }
+      go none h d = cc
+  in_word_right (Err n) e = tt
+
+  pub in_word_past : (x : Result One Refusal) → outcome x ≡ select_in_word w r → w < 2 ^ 64 → (x ≡ Err RankTooLarge) ↔ (ones w ≤ r)
+  in_word_past x e h =
+      let k = in_word_refuses w r h in (
+        (λ d. k.0 (sym e ∙ ap outcome d)),
+        (λ l. is_err x RankTooLarge (e ∙ k.1 l)),
+      )

@@ -24,7 +24,7 @@ use Rattle.build_inventory.specs.declared.Sizes.{Sizes}
 use Rattle.build_inventory.specs.Compare.{same_index}
 use Rattle.build_inventory.specs.Positions.{pos_in}
 use Rattle.build_inventory.proofs.Outcomes.{admission}
-use Rattle.read_inventory.specs.Jump.{sample_of, select_of, hint_sample, hint_of, dwell_at, dwell_of, store_of, subinventory_of}
+use Rattle.read_inventory.specs.Jump.{sample_of, select_of, hint_sample, hint_of, dwell_at, dwell_of, store_of}
 use Rattle.read_inventory.specs.Read.{position_of}
 use Rattle.read_inventory.specs.Tests.{of_index, of_rank, of_ranks}
 use Rattle.select_list.specs.List.{Walk, start, after, walk, of_list, walk_of, list_of}
@@ -142,8 +142,8 @@ module _ (len : ℕ) (ws vs : List ℕ) (s : SameRecord len ws vs) where
     unfolding select_of sample_of
     select_same r = tests_same (of_rank (N t.plan) r) (sample_of ws t inv sp r) ∙ rw (position_same r)
 
-    store_same : (r : ℕ) → subinventory_of ws t inv sp r ≡ subinventory_of vs t inv sp r
-    unfolding subinventory_of store_of
+    store_same : (r : ℕ) → store_of ws t inv sp r ≡ store_of vs t inv sp r
+    unfolding store_of
     store_same r = rw (hint_same r)
 
     dwell_same : (a b : ℕ) → dwell_of ws t inv sp a b ≡ dwell_of vs t inv sp a b

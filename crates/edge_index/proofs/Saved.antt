@@ -14,7 +14,7 @@ use Rattle.inventory.specs.Lawful.{CellsHeld}
 use Rattle.inventory.specs.declared.summary.Summary.{Summary}
 use Rattle.index_image.specs.Image.{Read, Wrote, bytes_after, write_of}
 use Rattle.edge_index.specs.Images.{Bytes, Cells, Restored, Written, inventory_left, spill_left}
-use Rattle.edge_index.proofs.Entries.{is_err}
+use Rattle.edge_index.proofs.Entries.{is_err, is_ok}
 use Rattle.edge_index.proofs.Images.{images}
 
 -- ---- writing
@@ -55,9 +55,12 @@ module _ (t : Summary) (inv sp bytes bytes' : List ℕ) where
 -- ---- reading
 module _ (bytes inv inv' sp sp' : List ℕ) (b : Bytes bytes) where
   pub read_image_is : (r : Result Summary Refusal) → Read bytes inv inv' sp sp' r
-      → IfOk r (λ t. Written t bytes × CellsHeld t inv sp)
-  read_image_is (Ok t) w = (images.read_exact t bytes inv sp b).0 (sym w.told)
-  read_image_is (Err e) w = tt
+      → (t : Summary) → (r ≡ Ok t) ↔ (Written t bytes × CellsHeld t inv sp)
+  read_image_is r w t =
+      let x = images.read_exact t bytes inv sp b in (
+        (λ h. x.0 (sym w.told ∙ ap outcome h)),
+        (λ h. is_ok r t (w.told ∙ x.1 h)),
+      )
 
   pub read_no_image : (r : Result Summary Refusal) → Read bytes inv inv' sp sp' r
       → (r ≡ Err ImageUnlawful) ↔ ((t : Summary) → Written t bytes → ⊥)

@@ -1,6 +1,10 @@
 -- What the entries promise, in the words of one call.
-use Rattle.std.specs.Prelude.{List, ◌↔◌, ◌≡◌, ℕ, ◌+◌, ◌/◌, ◌^◌, ◌≤◌, ◌<◌}
+use Rattle.std.specs.Prelude.{true, List, ◌↔◌, ◌≡◌, ℕ, ◌+◌, ◌/◌, ◌^◌, ◌≤◌, ◌<◌}
 use Rattle.rank_sel.specs.Outcome.{answer, refused}
+use Rattle.rank_sel.specs.Rank.{rank}
+use Rattle.select_in_word.specs.Bit.{bit}
+use Rattle.select_in_word.specs.Select.{ones_above}
+use Rattle.select_in_word.specs.declared.One.{One}
 use Rattle.bit_record.specs.Record.{bit_of}
 use Rattle.bit_record.specs.declared.Polarity.{Polarity}
 use Rattle.spacing.specs.declared.Choice.{Choice}
@@ -43,3 +47,11 @@ mark_of ws t r =
 -- a hint at position p, of so high a rank
 abbrev pub hint_at_bit : Summary → ℕ → ℕ → Hint
 hint_at_bit t p r = record { mark = t.origin + p; rank = r }
+
+-- ---- a word
+-- a one of the word, with exactly r ones below it and as many above as are said to remain
+pub record IsOneOf (w r : ℕ) (x : One) : Type 0 where
+  pub low : x.position < 64
+  pub here : bit w x.position ≡ true
+  pub below : rank (bit w) x.position ≡ r
+  pub above : x.remaining ≡ ones_above w x.position

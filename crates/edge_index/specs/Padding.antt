@@ -9,7 +9,7 @@ use Rattle.spacing.specs.Spacing.{plan_of}
 use Rattle.spacing.specs.declared.Choice.{Choice}
 use Rattle.inventory.specs.declared.summary.Summary.{Summary}
 use Rattle.build_inventory.specs.Build.{size_of, check_of}
-use Rattle.read_inventory.specs.Jump.{select_of, hint_of, dwell_of, subinventory_of}
+use Rattle.read_inventory.specs.Jump.{select_of, hint_of, dwell_of, store_of}
 use Rattle.select_list.specs.List.{list_of}
 use Rattle.rank_inventory.specs.Rank.{rank_of}
 use Rattle.step_knob.specs.Step.{next_of, previous_of, open_of, turn_of}
@@ -26,7 +26,7 @@ pub record Alike (len : ℕ) (ws vs : List ℕ) : Type 0 where
   -- the summary's len is the one that counts
   pub select : (t : Summary) (inv sp : List ℕ) (r : ℕ) → t.plan.len ≡ len → select_of ws t inv sp r ≡ select_of vs t inv sp r
   pub hint : (t : Summary) (inv sp : List ℕ) (r : ℕ) → t.plan.len ≡ len → hint_of ws t inv sp r ≡ hint_of vs t inv sp r
-  pub store : (t : Summary) (inv sp : List ℕ) (r : ℕ) → t.plan.len ≡ len → subinventory_of ws t inv sp r ≡ subinventory_of vs t inv sp r
+  pub store : (t : Summary) (inv sp : List ℕ) (r : ℕ) → t.plan.len ≡ len → store_of ws t inv sp r ≡ store_of vs t inv sp r
   pub dwell : (t : Summary) (inv sp : List ℕ) (a b : ℕ) → t.plan.len ≡ len → dwell_of ws t inv sp a b ≡ dwell_of vs t inv sp a b
   pub list : (t : Summary) (inv sp ranks : List ℕ) (lent : ℕ) → t.plan.len ≡ len
       → list_of ws t inv sp ranks lent ≡ list_of vs t inv sp ranks lent

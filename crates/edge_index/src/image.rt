@@ -1,5 +1,5 @@
 // An index saved as bytes beside its capture, and opened again.
-ghost use Rattle.std.specs.Prelude.{List, ℕ, ◌≡◌, ◌↔◌, ◌≤◌, length, take, drop, Err, IfOk, OnErr};
+ghost use Rattle.std.specs.Prelude.{List, ℕ, ◌≡◌, ◌↔◌, ◌≤◌, length, take, drop, Ok, Err, IfOk, OnErr};
 ghost use Rattle.rank_sel.specs.Outcome.{answer};
 ghost use Rattle.rank_sel.specs.declared.Refusal.TheVariants.{ImageUnlawful};
 ghost use Rattle.inventory.specs.Lawful.{CellsHeld};
@@ -41,7 +41,7 @@ pub fn read_image(
     spill: &mut [u64],
 ) -> Result<Summary, Refusal>
     ensures opened { Read bytes.now inventory.old inventory.new spill.old spill.new result }
-    ensures image { IfOk result (λ t. Written t bytes.now × CellsHeld t inventory.old spill.old) }
+    ensures image { (t : Summary) → (result ≡ Ok t) ↔ (Written t bytes.now × CellsHeld t inventory.old spill.old) }
     ensures no_image { (result ≡ Err ImageUnlawful) ↔ ((t : Summary) → Written t bytes.now → ⊥) }
     ensures restores { IfOk result (λ t. (lent : ℕ) → length bytes.now ≤ lent
         → write_of t inventory.new spill.new lent ≡ answer bytes.now) }

@@ -42,7 +42,7 @@ pub fn plan(
 ) -> Result<Parameters, Refusal>
     ensures planned { outcome result ≡ plan_of words.now len polarity choice }
     ensures same_record { IfOk result (λ p. (p.polarity ≡ polarity) × (p.len ≡ len)) }
-    ensures by_rule { IfOk result (λ p. PlanOf words.now p) }
+    ensures within_limits { IfOk result (λ p. PlanOf words.now p) }
     ensures no_origin { result ≡ Err OriginTooLarge → ⊥ }
 {
     spacing::plan(words, len, polarity, choice)
@@ -50,7 +50,7 @@ pub fn plan(
 
 /// How many cells the index of the record takes in the inventory, and how many in the spill.
 ///
-/// A build with as many cells answers, whatever the origin, and one with fewer is refused. That the inventory's count passes a u64 is
+/// A build with as many cells answers, from any origin that is accepted, and one with fewer is refused. That the inventory's count passes a u64 is
 /// said of vast records alone.
 #[tactic(auto, using(crate::proofs::Entries::size_no_origin, crate::proofs::Entries::size_not_six))]
 #[inline(always)]

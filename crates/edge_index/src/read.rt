@@ -64,7 +64,7 @@ pub fn hint(
 /// Dwell: how many samples lie from the selected bit of rank `a` to that of rank `b`.
 ///
 /// By a sound index it is the distance of the two bits where `a` is not above `b`. A rank that is not below the count of selected
-/// bits is refused as too large, and else ranks that fall are refused.
+/// bits is refused as too large; where both are below it, ranks that fall are refused.
 #[tactic(auto, using(crate::proofs::Entries::dwell_right, crate::proofs::Entries::dwell_past, crate::proofs::Entries::dwell_falls))]
 #[inline(always)]
 pub fn dwell(
@@ -120,6 +120,7 @@ pub fn subinventory_part(
 ) -> Result<CellPart, Refusal>
     ensures reads { stored result ≡ store_of words.now summary inventory.now spill.now rank }
     ensures lent { PartIn inventory.now spill.now (or_empty (stored result)) }
+    ensures refuses { (n : ℕ) → (stored result ≡ refused n) ↔ (hint_of words.now summary inventory.now spill.now rank ≡ refused n) }
     ensures right { IsSound words.now summary inventory.now spill.now → rank < N summary.plan
         → Within (place_at summary inventory.now (entry_of_rank summary rank) (mark_number summary inventory.now rank))
         (or_empty (stored result)) }
@@ -131,7 +132,7 @@ pub fn subinventory_part(
 /// List: the sample numbers of the selected bits of a list of ranks, in `places`; the answer is the total of words read.
 ///
 /// By a sound index, where the ranks never fall, are below the count of selected bits and have a place each, place i takes the bit of
-/// rank i, counted from the origin on, the places past the list stay, and no more words are read than by single jumps. Else a
+/// rank i, counted from the origin on, as a jump answers it, the places past the list stay, and no more words are read than by single jumps. Else a
 /// list that falls, too few places and a rank that is too large are refused, in this order. On a refusal the places are as they
 /// were.
 #[inline(always)]
@@ -149,6 +150,9 @@ pub fn select_list(
     ensures right { IsSound words.now summary inventory.now spill.now → Answerable (N summary.plan) ranks.now (length places.old)
         → (i : ℕ) → i < length ranks.now
         → (p : ℕ) × (get_or places.new i 0 ≡ summary.origin + p) × IsBit words.now summary (get_or ranks.now i 0) p }
+    ensures jumps { IsSound words.now summary inventory.now spill.now → Answerable (N summary.plan) ranks.now (length places.old)
+        → (i : ℕ) → i < length ranks.now
+        → select_of words.now summary inventory.now spill.now (get_or ranks.now i 0) ≡ answer (get_or places.new i 0) }
     ensures rest { IsSound words.now summary inventory.now spill.now → Answerable (N summary.plan) ranks.now (length places.old)
         → drop (length ranks.now) places.new ≡ drop (length ranks.now) places.old }
     ensures fewer { IsSound words.now summary inventory.now spill.now → Answerable (N summary.plan) ranks.now (length places.old)
@@ -184,6 +188,8 @@ pub fn rank(
         → result ≡ Ok (count_before (selected summary.plan.polarity words.now summary.plan.len) (sample - summary.origin)) }
     ensures outside { IsSound words.now summary inventory.now spill.now
         → sample_outside summary.origin summary.plan.len sample ≡ true → result ≡ Err SampleOutside }
+    ensures at_the_end { IsSound words.now summary inventory.now spill.now
+        → sample ≡ summary.origin + summary.plan.len → result ≡ Ok (N summary.plan) }
     ensures jumped { IsSound words.now summary inventory.now spill.now
         → (r : ℕ) → select_of words.now summary inventory.now spill.now r ≡ answer sample → result ≡ Ok r }
     ensures next { IsSound words.now summary inventory.now spill.now → (r e : ℕ) → result ≡ Ok r

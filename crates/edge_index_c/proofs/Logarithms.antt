@@ -24,7 +24,7 @@ use Rattle.build_inventory.specs.Build.{fitted, size_of, build_from, build_of, s
 use Rattle.build_inventory.specs.Compare.{same_index}
 use Rattle.build_inventory.specs.Positions.{pos_in}
 use Rattle.build_inventory.proofs.Outcomes.{admission}
-use Rattle.read_inventory.specs.Jump.{sample_of, select_of, hint_sample, hint_of, dwell_at, dwell_of, store_of, subinventory_of}
+use Rattle.read_inventory.specs.Jump.{sample_of, select_of, hint_sample, hint_of, dwell_at, dwell_of, store_of}
 use Rattle.read_inventory.specs.Tests.{of_rank, of_ranks}
 use Rattle.select_list.specs.List.{of_list, walk_of, list_of}
 use Rattle.rank_inventory.specs.Rank.{rank_at, rank_of}
@@ -146,14 +146,15 @@ module _ {t u : Summary} where
       ∙ ap₂ (λ (n k : ℕ). refused (refusal_of ws n k)) e f
       ∙ sym (unlawful_refused ws u (cs u) (rest u) (over_unlawful u p))
 
-  store_alike : Alike t u → (ws inv sp : List ℕ) (r : ℕ) → subinventory_of ws t inv sp r ≡ subinventory_of ws u inv sp r
-  unfolding subinventory_of store_of hint_of
-  store_alike (equal e) ws inv sp r = ap (λ (z : Summary). subinventory_of ws z inv sp r) e
+  store_alike : Alike t u → (ws inv sp : List ℕ) (r : ℕ) → store_of ws t inv sp r ≡ store_of ws u inv sp r
+  unfolding store_of hint_of
+  store_alike (equal e) ws inv sp r = ap (λ (z : Summary). store_of ws z inv sp r) e
   store_alike (both e f o p) ws inv sp r =
       rw (
         unlawful_refused ws t (of_cells t inv sp ++ of_rank (N t.plan) r) (hint_sample t inv sp r) (over_unlawful t o),
         unlawful_refused ws u (of_cells u inv sp ++ of_rank (N u.plan) r) (hint_sample u inv sp r) (over_unlawful u p),
       )
+      (ap₂ (λ (n k : ℕ). refused (refusal_of ws n k)) e f)
 
   write_alike : Alike t u → (inv sp : List ℕ) (lent : ℕ) → write_of t inv sp lent ≡ write_of u inv sp lent
   unfolding write_of

@@ -8,7 +8,7 @@ use Rattle.spacing.specs.declared.Choice.{Choice}
 use Rattle.inventory.specs.Numbers.{summary_by}
 use Rattle.inventory.specs.declared.summary.Summary.{Summary}
 use Rattle.build_inventory.specs.Build.{size_of, build_of, check_of}
-use Rattle.read_inventory.specs.Jump.{select_of, hint_of, dwell_of, subinventory_of}
+use Rattle.read_inventory.specs.Jump.{select_of, hint_of, dwell_of, store_of}
 use Rattle.select_list.specs.List.{list_of}
 use Rattle.rank_inventory.specs.Rank.{rank_of}
 use Rattle.step_knob.specs.Step.{next_of, previous_of, open_of}
@@ -38,7 +38,7 @@ pub record SameAnswers (t u : Summary) : Type 0 where
   pub check : (ws : List ℕ) (len origin : ℕ) (pol : Polarity) (c : Choice) (inv sp : List ℕ) → check_of ws len origin pol c t inv sp ≡ check_of ws len origin pol c u inv sp
   pub select : (ws inv sp : List ℕ) (r : ℕ) → select_of ws t inv sp r ≡ select_of ws u inv sp r
   pub hint : (ws inv sp : List ℕ) (r : ℕ) → hint_of ws t inv sp r ≡ hint_of ws u inv sp r
-  pub store : (ws inv sp : List ℕ) (r : ℕ) → subinventory_of ws t inv sp r ≡ subinventory_of ws u inv sp r
+  pub store : (ws inv sp : List ℕ) (r : ℕ) → store_of ws t inv sp r ≡ store_of ws u inv sp r
   pub dwell : (ws inv sp : List ℕ) (a b : ℕ) → dwell_of ws t inv sp a b ≡ dwell_of ws u inv sp a b
   pub list : (ws inv sp ranks : List ℕ) (lent : ℕ) → list_of ws t inv sp ranks lent ≡ list_of ws u inv sp ranks lent
   pub rank : (ws inv sp : List ℕ) (x : ℕ) → rank_of ws t inv sp x ≡ rank_of ws u inv sp x
