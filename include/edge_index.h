@@ -17,7 +17,7 @@
  *
  *    1  len over 2^62 - 1
  *    2  fewer than ceil(len / 64) words
- *    3  L over 63
+ *    3  the given L over 63
  *    4  given M or maximum of M over 10
  *    5  percentage not finite or not above 0
  *    6  inventory shorter than its count; in size, that count over 2^64 - 1

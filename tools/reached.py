@@ -4,6 +4,9 @@
 A statement that no function's contract names may stay unproved, and a definition that none names is one that nobody has to believe.
 So each name that a specs/ declares has to be reached from a clause of some function, or from a ghost field or member of a type, by name and through
 the definitions of specs/. What is not is listed, and the exit status is 1. What serves proofs alone stands in proofs/.
+
+It finds definitions that nothing leads to, and no clause that is missing where another function's names the same words; and it does not
+tell a word that a clause concludes from one that it asks for.
 """
 
 import collections
@@ -18,6 +21,8 @@ COMMENT = re.compile(r"--[^\n]*")
 USE = re.compile(r"(?m)^[ \t]*(?:ghost[ \t]+)?(?:pub[ \t]+)?use[ \t]+([^\s{;]+?)(?:\.\{([^}]*)\}|[ \t]+as[ \t]+(%s))?;?[ \t]*$" % NAME)
 KIND = re.compile(r"^( *)((?:abbrev|unfoldable) )?(pub )?(record|data) (%s)(?=[ :(])" % NAME)
 VALUE = re.compile(r"^( *)((?:abbrev|unfoldable) )?(pub )?((?:%s )+): " % NAME)
+# The name of a field or of a constructor, which is no word of its type.
+FIELD = re.compile(r"^ *(?:pub )?(?:%s )+: " % NAME)
 CLAUSE = re.compile(r"\b(?:requires|ensures)\*?(?:\s+\w+)?\s*\{|\bghost\s+\w+\s*[:=]\s*\{")
 
 
@@ -51,6 +56,8 @@ class Module:
                 continue
             elif not inside:
                 deep = None
+            if inside:
+                line = FIELD.sub("", line)
             for name in held:
                 self.items[name].update(WORD.findall(line))
 
