@@ -47,7 +47,7 @@ use Rattle.rank_inventory.specs.Rank.{rank_of}
 use Rattle.step_knob.specs.Step.{next_of, of_step, previous_of}
 use Rattle.step_knob.specs.Walk.{FirstExact, LastExact}
 use Rattle.step_knob.proofs.Walk.{next_gives, previous_gives}
-use Rattle.edge_index.specs.Entries.{Counts, IsBit, IsOneOf, IsSound, Suffices, mark_of, hint_at_bit}
+use Rattle.edge_index.specs.Entries.{IsBit, IsCount, IsOneOf, IsSound, Suffices, rank_of_mark, hint_at_bit}
 use Rattle.edge_index.specs.Refusals.{MakersRefuse, Never}
 use Rattle.edge_index.specs.Right.{Answerable, ListRight, RankRight, Right, Within}
 use Rattle.edge_index.specs.Sound.{Sound, q_of}
@@ -162,14 +162,14 @@ module _ (ws : List ℕ) (t : Summary) (inv sp : List ℕ) (r : ℕ) (x : Result
   select_past s l = is_err x RankTooLarge (e ∙ (reads ws t inv sp s).select_past r l)
 
 -- a mark stands at its rank or before it
-mark_before : (ws : List ℕ) (t : Summary) (r : ℕ) → mark_of ws t r ≤ r
+mark_before : (ws : List ℕ) (t : Summary) (r : ℕ) → rank_of_mark ws t r ≤ r
 mark_before ws t r =
     let q = q_of (bit_of ws t.plan.len t.plan.polarity) t.plan (entry_of_rank t r) in
     omega (arith, div-mul-le_self (subrank t r) (2 ^ q), div-add-mod' r (2 ^ L t.plan))
 
 module _ (ws : List ℕ) (t : Summary) (inv sp : List ℕ) (r : ℕ) (x : Result Hint Refusal) (e : outcome x ≡ hint_of ws t inv sp r) where
   pub hint_right : IsSound ws t inv sp → r < N t.plan
-      → (p : ℕ) × (x ≡ Ok (hint_at_bit t p (mark_of ws t r))) × IsBit ws t (mark_of ws t r) p × (mark_of ws t r ≤ r)
+      → (p : ℕ) × (x ≡ Ok (hint_at_bit t p (rank_of_mark ws t r))) × IsBit ws t (rank_of_mark ws t r) p × (rank_of_mark ws t r ≤ r)
   hint_right s l = let f = (reads ws t inv sp s).hint r l in (f.0, is_ok x _ (e ∙ f.1), f.2, mark_before ws t r)
 
   pub hint_past : IsSound ws t inv sp → N t.plan ≤ r → x ≡ Err RankTooLarge
@@ -310,7 +310,7 @@ module _ (ws : List ℕ) (len : ℕ) (pol : Polarity) where
   abbrev chosen : ℕ → Bool
   chosen = selected pol ws len
 
-  counts : Counts ws len pol (num_selected pol ws len)
+  counts : IsCount ws len pol (num_selected pol ws len)
   unfolding num_selected
   counts r = (
     (λ h. (
@@ -324,8 +324,8 @@ module _ (ws : List ℕ) (len : ℕ) (pol : Polarity) where
     (λ b. let d = b.1 in omega (arith, rank_lt chosen b.0 len d.here d.below, d.before)),
   )
 
-  pub count_bits : (r : Result ℕ Refusal) → outcome r ≡ count_of ws len pol → IfOk r (λ n. Counts ws len pol n)
-  count_bits (Ok n) e = subst (Counts ws len pol) (counted ws len pol n (sym e)).1 counts
+  pub count_bits : (r : Result ℕ Refusal) → outcome r ≡ count_of ws len pol → IfOk r (λ n. IsCount ws len pol n)
+  count_bits (Ok n) e = subst (IsCount ws len pol) (counted ws len pol n (sym e)).1 counts
   count_bits (Err n) e = tt
 
   pub count_no_origin : (r : Result ℕ Refusal) → outcome r ≡ count_of ws len pol → r ≡ Err OriginTooLarge → ⊥

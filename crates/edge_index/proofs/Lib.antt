@@ -8,7 +8,6 @@ pub mod Refusals
 pub mod Padding
 pub mod Images
 pub mod Spans
-pub mod Steps
 pub mod Table
 pub mod Entries
 pub mod Saved

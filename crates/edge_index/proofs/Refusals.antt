@@ -1,6 +1,6 @@
 -- Refusals in their order: a list of tests is passed in its order, and what comes after the tests says 10 alone. Size's 6 needs a count that
 -- only a vast record has.
-use mathlib.Core.Bool.{Bool, true, false, cond}
+use mathlib.Core.Bool.{Bool, true, false}
 use mathlib.Core.List.{List, [], ◌∷◌, ◌++◌}
 use mathlib.Core.Option.{Option, none, some}
 use mathlib.Core.Path.{◌≡◌, refl, sym, ap, ◌∙◌}
@@ -31,7 +31,7 @@ use Rattle.build_inventory.specs.Build.{fitted, size_of, build_from, build_of, c
 use Rattle.build_inventory.specs.declared.Sizes.{Sizes}
 use Rattle.build_inventory.specs.Positions.{spill_len_of}
 use Rattle.read_inventory.specs.Jump.{sample_of, select_of, hint_sample, hint_of, dwell_at, dwell_of, store_of, subinventory_of, cells_of}
-use Rattle.read_inventory.specs.Read.{mark_of_rank, Hint, hint_at, position_of}
+use Rattle.read_inventory.specs.Read.{mark_of_rank, Hint, hint_at, position_of, Only10}
 use Rattle.read_inventory.specs.Tests.{rank_too_large, ranks_fall}
 use Rattle.read_inventory.proofs.PartSize.{store_some, store_in, store_length}
 use Rattle.read_inventory.proofs.Ten.{ten_answer, ten_refuse, ten_or, ten_then, ten_cond, ten_rank, ten_position}
@@ -40,7 +40,7 @@ use Rattle.select_list.specs.Step.{Reached, Start, start_of, read_from, step_at_
 use Rattle.rank_inventory.specs.Rank.{starts_unlawful, rank_at, rank_of}
 use Rattle.step_knob.specs.Step.{next_of, previous_of, open_of, of_turn, turn_of}
 use Rattle.index_image.specs.Image.{image_of, of_writing, write_of, of_reading, read_of}
-use Rattle.edge_index.specs.Refusals.{first_of, InOrder, record_order, record_from_order, choice_order, index_order, plan_in, summary_in, to_six, to_seven, Never, Only10, MakersRefuse, ReadersRefuse, StepsRefuse, step_order, ImagesRefuse, InWordRefuses}
+use Rattle.edge_index.specs.Refusals.{first_of, InOrder, record_order, record_from_order, choice_order, index_order, plan_in, summary_in, to_six, to_seven, Never, MakersRefuse, ReadersRefuse, StepsRefuse, step_order, ImagesRefuse, InWordRefuses}
 
 -- ---- chains of tests
 pub in_rest : {A : Type 0} (o : Outcome A) → InOrder o [] o
@@ -71,19 +71,6 @@ in_then o (c ∷ cs) ds a go rest h k =
         some_is : {x y : ℕ} → ◌≡◌ {A = Option ℕ} (some x) (some y) → x ≡ y
         some_is e = cc
     step false f ih = let i = ih f in record { first = λ n g. i.first n (rw f at g); else = λ g. i.else (rw f at g) }
-
--- the first is none where none holds, and the other way round
-pub none_first : (cs : Conditions) → first_of cs ≡ none → NoneOf cs
-none_first [] e = tt
-none_first (c ∷ cs) e = go (none_first cs) c.0 refl e
-  where
-    go : (first_of cs ≡ none → NoneOf cs) → (b : Bool) → c.0 ≡ b → cond b (some c.1) (first_of cs) ≡ none → NoneOf (c ∷ cs)
-    go ih true f d = cc
-    go ih false f d = (f, ih d)
-
-pub first_none : (cs : Conditions) → NoneOf cs → first_of cs ≡ none
-first_none [] h = refl
-first_none (c ∷ cs) h = rw (h.0) (first_none cs h.1)
 
 -- a number that none of the conditions has is never said
 Unsaid : ℕ → Conditions → Type 0

@@ -1,5 +1,5 @@
 -- What the entries promise, in the words of one call.
-use Rattle.std.specs.Prelude.{true, List, ◌↔◌, ◌≡◌, ℕ, ◌+◌, ◌/◌, ◌^◌, ◌≤◌, ◌<◌}
+use Rattle.std.specs.Prelude.{true, List, ◌↔◌, ◌≡◌, ℕ, ◌+◌, ◌^◌, ◌≤◌, ◌<◌}
 use Rattle.rank_sel.specs.Outcome.{answer, refused}
 use Rattle.rank_sel.specs.Rank.{rank}
 use Rattle.select_in_word.specs.Bit.{bit}
@@ -11,13 +11,14 @@ use Rattle.spacing.specs.declared.Choice.{Choice}
 use Rattle.inventory.specs.declared.summary.Summary.{Summary}
 use Rattle.build_inventory.specs.Build.{build_of}
 use Rattle.build_inventory.specs.declared.Sizes.{Sizes}
-use Rattle.read_inventory.specs.Read.{Hint, entry_of_rank, subrank}
-use Rattle.edge_index.specs.Sound.{Bit, Sound, q_of, mark_rank}
+use Rattle.read_inventory.specs.Read.{Hint}
+use Rattle.edge_index.specs.Right.{mark_of}
+use Rattle.edge_index.specs.Sound.{Bit, Sound}
 
 -- ---- a record and a choice
 -- n counts the record's bits: the ranks below n are exactly those that have one
-abbrev pub Counts : List ℕ → ℕ → Polarity → ℕ → Type 0
-Counts ws len pol n = (r : ℕ) → (r < n) ↔ ((p : ℕ) × Bit ws len pol r p)
+abbrev pub IsCount : List ℕ → ℕ → Polarity → ℕ → Type 0
+IsCount ws len pol n = (r : ℕ) → (r < n) ↔ ((p : ℕ) × Bit ws len pol r p)
 
 -- these cell counts are what builds of this record and choice take, from whatever origin its positions have sample numbers: with as
 -- many a build answers, and with fewer it is 6 or 7
@@ -38,11 +39,9 @@ pub record IsSound (ws : List ℕ) (t : Summary) (inv sp : List ℕ) : Type 0 wh
 abbrev pub IsBit : List ℕ → Summary → ℕ → ℕ → Type 0
 IsBit ws t r p = Bit ws t.plan.len t.plan.polarity r p
 
--- the rank of the mark from which a jump to rank r starts: that of r's place in its entry
-abbrev pub mark_of : List ℕ → Summary → ℕ → ℕ
-mark_of ws t r =
-    mark_rank (bit_of ws t.plan.len t.plan.polarity) t.plan (entry_of_rank t r)
-    (subrank t r / 2 ^ q_of (bit_of ws t.plan.len t.plan.polarity) t.plan (entry_of_rank t r))
+-- the rank of the mark from which a jump to rank r starts
+abbrev pub rank_of_mark : List ℕ → Summary → ℕ → ℕ
+rank_of_mark ws t r = mark_of (bit_of ws t.plan.len t.plan.polarity) t.plan r
 
 -- a hint at position p, of so high a rank
 abbrev pub hint_at_bit : Summary → ℕ → ℕ → Hint

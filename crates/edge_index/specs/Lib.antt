@@ -5,6 +5,5 @@ pub mod Refusals
 pub mod Padding
 pub mod Images
 pub mod Spans
-pub mod Steps
 pub mod Table
 pub mod Entries

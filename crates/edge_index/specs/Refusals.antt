@@ -18,7 +18,7 @@ use Rattle.build_inventory.specs.Build.{size_of, build_of, same_summary, check_o
 use Rattle.build_inventory.specs.Compare.{same_index}
 use Rattle.build_inventory.specs.Positions.{pos_in}
 use Rattle.read_inventory.specs.Jump.{sample_of, select_of, hint_sample, hint_of, dwell_at, dwell_of, subinventory_of, PartIn, cells_of, cell_count}
-use Rattle.read_inventory.specs.Read.{Hint}
+use Rattle.read_inventory.specs.Read.{Hint, Only10}
 use Rattle.read_inventory.specs.Tests.{rank_too_large, ranks_fall}
 use Rattle.select_list.specs.List.{falls, too_few_places, any_too_large, walk_of, list_of, places_after}
 use Rattle.rank_inventory.specs.Rank.{rank_at, rank_of}
@@ -35,10 +35,6 @@ first_of (c ∷ cs) = cond c.0 (some c.1) (first_of cs)
 pub record InOrder {A : Type 0} (o : Outcome A) (cs : Conditions) (rest : Outcome A) : Type 0 where
   pub first : (n : ℕ) → first_of cs ≡ some n → o ≡ refused n
   pub else : first_of cs ≡ none → o ≡ rest
-
--- 10 is the only refusal
-abbrev pub Only10 : {A : Type 0} → Outcome A → Type 0
-Only10 o = (n : ℕ) → o ≡ refused n → n ≡ 10
 
 -- a number that is never said
 abbrev pub Never : {A : Type 0} → ℕ → Outcome A → Type 0

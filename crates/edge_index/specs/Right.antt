@@ -7,6 +7,7 @@ use Rattle.rank_sel.specs.Rank.{rank}
 use Rattle.bit_record.specs.Record.{selected, bit_of, sample_at, sample_outside}
 use Rattle.bit_record.specs.declared.Polarity.{Polarity}
 use Rattle.spacing.specs.Spacing.{N, L}
+use Rattle.spacing.specs.declared.Parameters.{Parameters}
 use Rattle.inventory.specs.declared.summary.Summary.{Summary}
 use Rattle.read_inventory.specs.Read.{Place, start, own, over, place_at, mark_number}
 use Rattle.read_inventory.specs.Jump.{select_of, hint_of, dwell_of, Part, of_inventory, of_spill, empty, subinventory_of}
@@ -34,13 +35,13 @@ pub record Answerable (num : ℕ) (ranks : List ℕ) (lent : ℕ) : Type 0 where
   pub below : (i : ℕ) → i < length ranks → get_or ranks i 0 < num
   pub room : length ranks ≤ lent
 
+-- the rank of the mark from which a jump to rank r starts: that of r's place in its entry
+abbrev pub mark_of : (ℕ → ℕ) → Parameters → ℕ → ℕ
+mark_of pos p r = mark_rank pos p (r / 2 ^ L p) (r % 2 ^ L p / 2 ^ q_of pos p (r / 2 ^ L p))
+
 module _ (ws : List ℕ) (len origin : ℕ) (pol : Polarity) (t : Summary) (inv sp : List ℕ) where
   abbrev pos : ℕ → ℕ
   pos = bit_of ws len pol
-
-  -- the rank of rank r's mark
-  abbrev mark_of : ℕ → ℕ
-  mark_of r = mark_rank pos t.plan (r / 2 ^ L t.plan) (r % 2 ^ L t.plan / 2 ^ q_of pos t.plan (r / 2 ^ L t.plan))
 
   -- what x leaves in the places: place i has what jump answers for rank i, which is its bit's sample; those past the list are
   -- as they were; and no more words are read than by single jumps
@@ -68,8 +69,8 @@ module _ (ws : List ℕ) (len origin : ℕ) (pol : Polarity) (t : Summary) (inv 
   pub record Right : Type 0 where
     pub select : (r : ℕ) → r < N t.plan → (p : ℕ) × (select_of ws t inv sp r ≡ answer (sample_at origin p)) × Bit ws len pol r p
     pub hint : (r : ℕ) → r < N t.plan
-        → (p : ℕ) × (hint_of ws t inv sp r ≡ answer (record { mark = sample_at origin p; rank = mark_of r }))
-        × Bit ws len pol (mark_of r) p
+        → (p : ℕ) × (hint_of ws t inv sp r ≡ answer (record { mark = sample_at origin p; rank = mark_of pos t.plan r }))
+        × Bit ws len pol (mark_of pos t.plan r) p
     pub dwell : (a b : ℕ) → a ≤ b → b < N t.plan
         → (p q : ℕ) × (dwell_of ws t inv sp a b ≡ answer (q - p)) × (p ≤ q) × Bit ws len pol a p × Bit ws len pol b q
     pub store : (r : ℕ) → r < N t.plan → Within (place_at t inv (r / 2 ^ L t.plan) (mark_number t inv r)) (subinventory_of ws t inv sp r)

@@ -6,7 +6,7 @@ ghost use Rattle.bit_record.specs.Record.{count_of};
 ghost use Rattle.spacing.specs.Spacing.{PlanOf, max_log2_words, plan_of};
 ghost use Rattle.inventory.specs.Index.{stride_by};
 ghost use Rattle.build_inventory.specs.Build.{BuiltAs, build_of, check_of, size_of};
-ghost use Rattle.edge_index.specs.Entries.{Counts, IsSound, Suffices};
+ghost use Rattle.edge_index.specs.Entries.{IsCount, IsSound, Suffices};
 ghost use Rattle.edge_index.specs.Right.{Right};
 ghost use Rattle.edge_index.specs.Sound.{Sound};
 
@@ -23,7 +23,7 @@ use spacing::{Choice, Parameters};
 #[inline(always)]
 pub fn count(words: &[u64], len: u64, polarity: Polarity) -> Result<u64, Refusal>
     ensures counted { outcome result ≡ count_of words.now len polarity }
-    ensures bits { IfOk result (λ n. Counts words.now len polarity n) }
+    ensures bits { IfOk result (λ n. IsCount words.now len polarity n) }
     ensures no_origin { result ≡ Err OriginTooLarge → ⊥ }
 {
     bit_record::count(words, len, polarity)

@@ -11,7 +11,7 @@ ghost use Rattle.select_list.specs.List.{any_too_large, falls, list_of, places_a
 ghost use Rattle.select_list.specs.Step.{single_words};
 ghost use Rattle.rank_inventory.specs.Rank.{rank_of};
 ghost use Rattle.step_knob.specs.Step.{next_of};
-ghost use Rattle.edge_index.specs.Entries.{IsBit, IsSound, hint_at_bit, mark_of};
+ghost use Rattle.edge_index.specs.Entries.{IsBit, IsSound, hint_at_bit, rank_of_mark};
 ghost use Rattle.edge_index.specs.Right.{Answerable, Within};
 
 use inventory::Summary;
@@ -54,8 +54,8 @@ pub fn hint(
 ) -> Result<Hint, Refusal>
     ensures reads { outcome result ≡ hint_of words.now summary inventory.now spill.now rank }
     ensures right { IsSound words.now summary inventory.now spill.now → rank < N summary.plan
-        → (p : ℕ) × (result ≡ Ok (hint_at_bit summary p (mark_of words.now summary rank)))
-        × IsBit words.now summary (mark_of words.now summary rank) p × (mark_of words.now summary rank ≤ rank) }
+        → (p : ℕ) × (result ≡ Ok (hint_at_bit summary p (rank_of_mark words.now summary rank)))
+        × IsBit words.now summary (rank_of_mark words.now summary rank) p × (rank_of_mark words.now summary rank ≤ rank) }
     ensures past { IsSound words.now summary inventory.now spill.now → N summary.plan ≤ rank → result ≡ Err RankTooLarge }
 {
     read_inventory::hint(words, summary, inventory, spill, rank)

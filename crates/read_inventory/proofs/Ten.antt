@@ -13,11 +13,8 @@ use Rattle.rank_sel.specs.declared.Refusal.{Refusal}
 use Rattle.bit_record.specs.Record.{selected}
 use Rattle.inventory.specs.Lanes.{lane_of}
 use Rattle.inventory.specs.declared.summary.Summary.{Summary}
-use Rattle.read_inventory.specs.Read.{Place, start, own, over, place_at, shape_at, span_at, kind_at, number_at, span_too_small, mark_at, entry_of_rank, mark_number, mark_of_rank, position_of}
+use Rattle.read_inventory.specs.Read.{Place, start, own, over, place_at, shape_at, span_at, kind_at, number_at, span_too_small, mark_at, entry_of_rank, mark_number, mark_of_rank, position_of, Only10}
 use Rattle.read_inventory.specs.Steps.{decode_of}
-
-abbrev pub Only10 : {A : Type 0} → Outcome A → Type 0
-Only10 o = (n : ℕ) → o ≡ refused n → n ≡ 10
 
 -- ---- by steps
 pub ten_answer : {A : Type 0} (a : A) → Only10 (answer a)

@@ -1,7 +1,7 @@
 -- What steps 2 to 7 read, on any summary and cells. Document 01, "A jump followed downwards".
-use Rattle.std.specs.Prelude.{Bool, true, false, cond, List, ℕ, zero, suc, ◌+◌, ◌-◌, ◌*◌, ◌/◌, ◌%◌, ◌^◌, leb, ltb, get_or}
+use Rattle.std.specs.Prelude.{Bool, true, false, cond, List, ◌≡◌, ℕ, zero, suc, ◌+◌, ◌-◌, ◌*◌, ◌/◌, ◌%◌, ◌^◌, leb, ltb, get_or}
 use Rattle.rank_sel.specs.Numbers.{ceil_div}
-use Rattle.rank_sel.specs.Outcome.{Outcome, answer, refuse_if, or_refuse, and_then}
+use Rattle.rank_sel.specs.Outcome.{Outcome, answer, refused, refuse_if, or_refuse, and_then}
 use Rattle.rank_sel.specs.Seek.{seek}
 use Rattle.bit_record.specs.Record.{selected}
 use Rattle.spacing.specs.Spacing.{L, M, S}
@@ -133,3 +133,7 @@ finish f len m = cond m.exact (answer m.at) (or_refuse 10 (seek f (len - m.at) m
 
 unfoldable pub position_of : List ℕ → Summary → List ℕ → List ℕ → ℕ → Outcome ℕ
 position_of ws t inv sp r = and_then (mark_of_rank t inv sp r) (finish (selected t.plan.polarity ws t.plan.len) t.plan.len)
+
+-- 10 is the only refusal
+abbrev pub Only10 : {A : Type 0} → Outcome A → Type 0
+Only10 o = (n : ℕ) → o ≡ refused n → n ≡ 10

@@ -24,7 +24,7 @@ M p = p.log2_words_per_subinventory
 abbrev pub S : Parameters → ℕ
 S p = p.log2_ones_per_sub16
 
--- what document 01 says of each choice; default is the span choice with 4,096 and 3, and no rule of its own. A span is a
+-- the rule of each choice; default is the span choice with 4,096 and 3, and no rule of its own. A span is a
 -- u64: of a number above, which no call can pass, the rule is the largest u64's
 pub data Rule : Type 0 where
   span power fixed : ℕ → ℕ → Rule

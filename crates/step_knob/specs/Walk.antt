@@ -1,5 +1,4 @@
--- What steps and walks are held to: the first edge from a sample on, the last before it, and the turns that list them. Document 02,
--- W-206.
+-- What steps and walks are held to: the first edge from a sample on, the last before it, and the turns that list them.
 use Rattle.std.specs.Prelude as std
 use Rattle.std.specs.Prelude.{true, List, [], ◌∷◌, ◌↔◌, ◌≡◌, ℕ, ◌-◌, ◌≤◌, ◌<◌, length, get_or}
 use Rattle.rank_sel.specs.Outcome.{Outcome, answer, NoneOf}
