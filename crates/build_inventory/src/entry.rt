@@ -52,7 +52,9 @@ impl<'a> Planned<'a> {
         or_end(record.seek_far(start, ones), plan)
     }
 
-    // Entry e, from where it starts.
+    // Entry e, from where it starts. Inlined: it answers so many bytes that a caller's copy of them would be a call of `memcpy`, which
+    // the library for C does without.
+    #[inline(always)]
     pub fn entry_at(&self, e: u64, start: u64) -> Placed<'a>
         requires { (e * 2 ^ L self.now.plan < N self.now.plan) × (start ≡ start_of (pos_of self.now) self.now.plan e) }
         ensures { (result.planned ≡ self.now) × (result.entry ≡ entry_of (pos_of self.now) self.now.plan e) }

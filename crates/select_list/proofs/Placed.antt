@@ -5,7 +5,7 @@ use mathlib.Core.Path.{◌≡◌, sym, ap, subst, ◌∙◌}
 use Prim.Native.Nat.{ℕ, ◌+◌, ◌≤◌}
 use native.Mathlib.Numerals.{add-one}
 use native.Mathlib.Omega.{arith}
-use lib.ListN.{length, take, drop, length-append, length-map}
+use lib.ListN.{length, take, length-append, length-map}
 use borrow.Author.Tests.{ltb-false}
 use Rattle.std.specs.Prelude.{Result, Ok, Err, IsErr, IsErrAnd}
 use Rattle.rank_sel.specs.Outcome.{Outcome, answer, refused, number_of, test_by, NoneOf, and_then, outcome}
@@ -76,13 +76,12 @@ module _ (ws : List ℕ) (t : Summary) (inv sp : List ℕ) where
       placed_again l₀ l q c g = placed_at l₀ l q walked.0 walked.1 c.told g (c.places walked.0 walked.1)
 
       pub placed_aside : (l₀ l : List ℕ) → length ranks ≤ length h₀ → length ranks ≤ length l₀
-          → l ≡ take (length ranks) h ++ drop (length ranks) l₀ → Placed (walk_of ws t inv sp ranks) l₀ l (Ok k)
+          → l ≡ written (take (length ranks) h) l₀ → Placed (walk_of ws t inv sp ranks) l₀ l (Ok k)
       placed_aside l₀ l d g c =
           let n = found walked.0 walked.1 in
           let e : take (length ranks) h ≡ samples walked.0 = ap (take (length ranks)) (b.places walked.0 walked.1)
           ∙ ap (λ (m : ℕ). take m (written (samples walked.0) h₀)) (sym n) ∙ written_back (samples walked.0) h₀ (omega arith) in
-          let a : l ≡ samples walked.0 ++ drop (length (samples walked.0)) l₀ = rw (e, ← n) at c in
-          placed_at l₀ l (Ok k) walked.0 walked.1 b.told g (a ∙ sym (written_front (samples walked.0) l₀ (omega arith)))
+          placed_at l₀ l (Ok k) walked.0 walked.1 b.told g (c ∙ ap (λ (ps : List ℕ). written ps l₀) e)
 
 -- ---- an index that passed the tests of what was handed in, a list of ranks and so many places
 module _ (ws : List ℕ) (t : Summary) (inv sp ranks : List ℕ) (lent : ℕ) (x : Index)

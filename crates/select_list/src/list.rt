@@ -2,7 +2,7 @@
 ghost use Rattle.std.specs.Prelude.{◌≡◌, ◌≤◌, length, set};
 ghost use Rattle.rank_sel.specs.Outcome.{outcome};
 ghost use Rattle.spacing.specs.Spacing.{N};
-ghost use Rattle.select_list.specs.Hand.{Placed, Walkable, Wrote};
+ghost use Rattle.select_list.specs.Hand.{Placed, Walkable, Wrote, written};
 ghost use Rattle.select_list.specs.List.{list_of, places_after, start, total_of, walk, walk_of};
 
 use crate::step::step_to;
@@ -43,6 +43,16 @@ fn walk_into(index: Index<'_>, ranks: &[u64], places: &mut [u64]) -> Result<u64,
     Ok(total)
 }
 
+// Writes what is held aside over the first places. One by one: a copied slice would be a call of `memcpy`, which the library for C
+// does without.
+fn put_first(held: &[u64], places: &mut [u64])
+    ensures { places.new ≡ written held.now places.old }
+{
+    for (i, sample) in held.iter().enumerate() {
+        put(places, i, *sample);
+    }
+}
+
 // A list is walked without writing into its places, which are written once its last position is known: from those held
 // aside, or, where they are more, by a second walk.
 fn place_all(index: Index<'_>, ranks: &[u64], places: &mut [u64]) -> Result<u64, Refusal>
@@ -55,7 +65,7 @@ fn place_all(index: Index<'_>, ranks: &[u64], places: &mut [u64]) -> Result<u64,
     if HELD < n {
         return walk_into(index, ranks, places);
     }
-    places[..n].copy_from_slice(&held[..n]);
+    put_first(&held[..n], places);
     Ok(total)
 }
 

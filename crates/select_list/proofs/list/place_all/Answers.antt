@@ -1,8 +1,4 @@
 -- The first walk's refusal leaves the places; else they are written by a second walk, or from what the first held aside.
-use mathlib.Core.List.{List, ◌++◌}
-use mathlib.Core.Path.{ap}
-use Prim.Native.Nat.{ℕ}
-use lib.ListN.{length, drop}
 use Rattle.select_list.proofs.Placed.{placed_refused, placed_again, placed_aside}
 use Rattle.select_list.proofs.list.place_all.Goals as goal
 
@@ -22,4 +18,4 @@ pub returns : goal.returns
 returns c =
     let a = c.args in
     placed_aside a.index.words.now a.index.cells.summary a.index.cells.inventory.now a.index.cells.spill.now a.ranks.now _ _ _ c.in_ok-total.ensures a.places.now _
-    c.if-n-gt-HELD.false c.requires.1 (ap (λ (x : List ℕ). x ++ drop (length a.ranks.now) a.places.now) c.copy_from_slice.ensures.after)
+    c.if-n-gt-HELD.false c.requires.1 c.put_first.ensures
