@@ -12,4 +12,6 @@ pub use numbers::{SUMMARY_NUMBERS, cut, numbers_of, polarity_at, summary_at};
 pub use shape::{
     Shape, SpanType, from_span, log2_ones_per_sub32, log2_quantum, shape_of, spilled_by,
 };
-pub use summary::{Summary, entry_count, entry_len, entry_ranks, test_cells, test_summary};
+pub use summary::{
+    Summary, entry_count, entry_len, entry_ranks, test_cells, test_lent, test_summary,
+};

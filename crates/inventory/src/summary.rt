@@ -103,7 +103,7 @@ fn refuse(refusal: Refusal) -> Result<(), Refusal>
 }
 
 // Refusals 6 and 7: fewer cells are lent than the summary counts.
-fn test_lent(lent: u64, count: u64, refusal: Refusal) -> Result<(), Refusal>
+pub fn test_lent(lent: u64, count: u64, refusal: Refusal) -> Result<(), Refusal>
     ensures { outcome result ≡ test_by ((ltb lent count, number_of refusal) ∷ []) }
 {
     if lent < count {
